@@ -7,8 +7,8 @@
  * Rules for all functions:
  *
  * - A function returns 0, or the number of the fault that it refuses by (enum zq_fault). After a fault nothing is
- *   written to where results go, but for the index of zq_l2_check, and what zq_image_extents and zq_image_check say. Nor is
- *   anything written to bytes that a function changes.
+ *   written to where results go, but for the index of zq_l2_check, and what zq_l2_edit, zq_image_extents and zq_image_check
+ *   say. Nor is anything written to bytes that a function changes.
  * - Whatever the bytes and the numbers are that you pass, no function reads or writes outside what its arguments
  *   point to. That is proved, as is each sentence here on what a function returns.
  * - A pointer to bytes points to as many as the length says, and one to a list to as many elements as the capacity says.
@@ -20,9 +20,9 @@
  * - Offsets and lengths are in bytes. Tables hold numbers of eight bytes, big-endian: an entry is passed as a number
  *   of your machine.
  *
- * Only zq_header_read, zq_refcounts_settle and the functions of a whole image, zq_image_.., take memory. They take it by
- * malloc and realloc, and give it back by free before they return. If you replace these three: they must be of one
- * allocator, and align a block to each power of two up to 16 that divides its size.
+ * Only zq_header_read, zq_l2_edit, zq_refcounts_settle and the functions of a whole image, zq_image_.., take memory. They
+ * take it by malloc and realloc, and give it back by free before they return. If you replace these three: they must be of
+ * one allocator, and align a block to each power of two up to 16 that divides its size.
  */
 #ifndef ZAQULLE_H
 #define ZAQULLE_H
@@ -252,6 +252,51 @@ typedef struct zq_clusters {
  */
 uint32_t zq_refcounts_settle(uint8_t *bytes, size_t length, uint32_t refcount_order, uint64_t block_index,
                              const zq_clusters *freed, size_t freed_count, const uint64_t *gained, size_t gained_count);
+
+/* What an edit makes of a guest cluster. */
+enum zq_edit_kind {
+    ZQ_EDIT_MAP = 1,       /* data in a cluster of the data file */
+    ZQ_EDIT_ZERO = 2,      /* zeros */
+    ZQ_EDIT_ZERO_KEEP = 3, /* zeros; where the entry has a cluster of the data file, it keeps it */
+    ZQ_EDIT_DISCARD = 4    /* data of the backing file, or zeros where there is none */
+};
+
+typedef struct zq_edit {
+    uint32_t kind;        /* an enum zq_edit_kind */
+    uint32_t reserved;    /* not looked at; set it to 0 */
+    uint64_t index;       /* of the guest cluster's entry in the table; 0 is the first */
+    uint64_t host_offset; /* for ZQ_EDIT_MAP where the cluster begins; a multiple of the cluster size. Else not looked at */
+} zq_edit;
+
+/*
+ * Makes edits in the bytes of a whole L2 table, one after the other, in place: all of them, or none. edits may be NULL
+ * where edit_count is 0. Takes the header as zq_header_read left it; of one that you made up it looks at version,
+ * cluster_bits and incompatible_features alone. Takes memory for the table, the edits and both lists.
+ *
+ * Says what the edits did to references: freed has the ranges of clusters that lost one each, and gained the clusters
+ * that gained one, both in the order of the edits. Sets *freed_count and *gained_count to how many elements these are;
+ * all after them stay as they were. No list is longer than edit_count, and either may be NULL where its capacity is 0. Pass
+ * both to zq_refcounts_settle, with each block that counts one of the clusters. Where guest data lies in an external
+ * data file, only ranges of compressed data are clusters of the image.
+ *
+ * An entry that maps to a cluster says that its refcount is exactly one: so give it one that nothing else refers to.
+ * That is not looked at. Where the entry had that cluster alone already, nothing is freed or gained. Compressed data is
+ * always freed. Nothing says that the table's own refcount is one: edit a copy where the L1 entry doesn't say it.
+ *
+ * So that a crash only leaks clusters: write counters that go up first, then the table, and then counters that go down, and
+ * let the file reach the disk after each.
+ *
+ * Faults: ZQ_VERSION_NEEDED for zeros in an image of version 2, then ZQ_CLUSTER_SIZE, ZQ_INCOMPATIBLE, then ZQ_WRONG_LENGTH
+ * where length is not the cluster size. Then that of the first number in the table that is no entry, ZQ_ENTRY_RESERVED or
+ * ZQ_ENTRY_UNALIGNED, and *bad is its index. Then ZQ_BAD_EDIT for an edit of another kind, past the table's end, or to a
+ * host_offset that is no multiple of the cluster size or not below 2^56, or that is 0 in an image with no external data
+ * file: *bad is the position of the first. Then ZQ_WRONG_LENGTH where a list is too short: *freed_count and *gained_count
+ * are the capacities that are needed. Lists of edit_count elements are always long enough. ZQ_NO_MEMORY. After a fault all
+ * else is as before.
+ */
+uint32_t zq_l2_edit(uint8_t *bytes, size_t length, const zq_header *header, const zq_edit *edits, size_t edit_count,
+                    zq_clusters *freed, size_t freed_capacity, size_t *freed_count, uint64_t *gained,
+                    size_t gained_capacity, size_t *gained_count, size_t *bad);
 
 /*
  * What the cluster of a guest offset reads as, by the bytes of a whole image, which may be mapped memory. After its last

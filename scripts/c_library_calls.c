@@ -1,10 +1,10 @@
 /* Calls each function of zaqulle.h with input that no caller should pass, and checks the fault and that results stay as
- * they were. Compares what 200,000 numbers in an L2 table say, what 400 tables join to, and counters of refcount blocks with
- * a reading by hand. Bytes that are passed end where a page begins that may not be read, so that reading past them ends the
+ * they were. Compares what 200,000 numbers in an L2 table say, what 400 tables join to, counters of refcount blocks, and edits
+ * of 4,000 tables with a reading by hand. Bytes that are passed end where a page begins that may not be read, so that reading past them ends the
  * program. Prints a line for each call that isn't as it must be. The status is 1 if one wasn't.
  * With the words map IMAGE or check IMAGE it prints instead what qmeta prints by that command, and with lookups IMAGE what
  * clusters of the guest's disk read as. Then the status is 1 after a fault. Of a check it doesn't print flags, and a line
- * for each cluster. With the word settle it settles one refcount block and does no more. */
+ * for each cluster. With the word settle it settles one refcount block and does no more, and with edit it edits a table. */
 #define _DEFAULT_SOURCE
 #include <fcntl.h>
 #include <stdio.h>
@@ -661,6 +661,163 @@ static int settle_once(void) {
     return fault != ZQ_OK;
 }
 
+/* Makes one edit of a table by hand. Says which clusters lost a reference, none where the count is 0, and whether one gained
+ * one. */
+static int edit_by_hand(uint8_t *table, const zq_header *header, const zq_edit *edit, zq_clusters *lost) {
+    uint32_t bits = header->cluster_bits, offset_bits = 70 - bits;
+    uint64_t entry = counter_by_hand(table, 6, edit->index), host = edit->host_offset >> bits;
+    uint64_t offset = entry & 0x00fffffffffffe00u, after = 0;
+    int is_compressed = (entry >> 62 & 1) != 0, is_map = edit->kind == ZQ_EDIT_MAP;
+    int has_cluster = !is_compressed && (offset != 0 || (header->incompatible_features == 4 && entry >> 63 == 1));
+    lost->first = offset >> bits;
+    lost->count = (uint64_t)has_cluster;
+    if (is_compressed) {
+        uint64_t begin = entry & ((UINT64_C(1) << offset_bits) - 1);
+        uint64_t sectors = (entry & ((UINT64_C(1) << 62) - 1)) >> offset_bits;
+        lost->first = begin >> bits;
+        lost->count = (((begin >> 9) + sectors) >> (bits - 9)) - lost->first + 1;
+    }
+    int keeps = is_map ? lost->count == 1 && lost->first == host : edit->kind == ZQ_EDIT_ZERO_KEEP && has_cluster;
+    if (is_map) {
+        after = edit->host_offset | UINT64_C(1) << 63;
+    } else if (edit->kind != ZQ_EDIT_DISCARD) {
+        after = keeps ? entry | 1 : 1;
+    }
+    put(table, edit->index * 8, 8, after);
+    lost->count = keeps ? 0 : lost->count;
+    return is_map && !keeps;
+}
+
+enum { EDITS = 12 };
+
+/* A number that is an entry: nothing, zeros, a cluster with or without zeros, or compressed data. */
+static uint64_t drawn_entry(uint64_t *state, uint32_t bits) {
+    uint64_t drawn = next_random(state) >> 32, cluster = drawn >> 8 & 7;
+    switch (drawn & 3) {
+        case 0: return cluster & 1;
+        case 3: return UINT64_C(1) << 62 | (drawn >> 16 & 1) << (70 - bits) | cluster << bits | (drawn >> 20 & 0x1ff);
+        default: return (drawn >> 16 & 1) << 63 | cluster << bits | (drawn & 1);
+    }
+}
+
+/* Compares edits of a drawn table, and what they did to references, with the same by hand. */
+static void check_drawn_table(uint64_t row, uint64_t *state) {
+    static uint8_t bytes[1 << 16], expected[1 << 16];
+    zq_header header = {3, 9, 4, 0, 0, 0, 0, 0, 0, 0, 0, 0, 0, 0, {0, 0}, {0, 0}, {0, 0}};
+    header.cluster_bits = row % 9 ? 9 : 16;
+    header.incompatible_features = row % 4 ? 0 : 4;
+    size_t size = (size_t)1 << header.cluster_bits, losses = 0, wins = 0, freed_count, gained_count, bad;
+    zq_edit edits[EDITS];
+    zq_clusters freed[EDITS], lost[EDITS + 1];
+    uint64_t gained[EDITS], won[EDITS + 1];
+    for (size_t i = 0; i < size / 8; i++) {
+        put(bytes, 8 * i, 8, drawn_entry(state, header.cluster_bits));
+    }
+    memcpy(expected, bytes, size);
+    for (size_t i = 0; i < EDITS; i++) {
+        uint64_t drawn = next_random(state) >> 32;
+        edits[i].kind = 1 + (uint32_t)(drawn & 3);
+        edits[i].reserved = (uint32_t)drawn;
+        edits[i].index = (drawn >> 8) % (i % 2 ? 8 : size / 8);
+        edits[i].host_offset = edits[i].kind == ZQ_EDIT_MAP ? (1 + (drawn >> 24 & 3)) << header.cluster_bits : drawn;
+        won[wins] = edits[i].host_offset >> header.cluster_bits;
+        wins += (size_t)edit_by_hand(expected, &header, &edits[i], &lost[losses]);
+        losses += lost[losses].count != 0;
+    }
+    uint8_t *given = (uint8_t *)(uintptr_t)guarded(bytes, size);
+    uint32_t fault =
+        zq_l2_edit(given, size, &header, edits, EDITS, freed, losses, &freed_count, gained, wins, &gained_count, &bad);
+    expect("zq_l2_edit of table", row, fault, ZQ_OK);
+    expect("edited table", row, (uint64_t)memcmp(given, expected, size), 0);
+    expect("ranges freed by table", row, freed_count, losses);
+    expect("clusters gained by table", row, gained_count, wins);
+    expect("freed by table", row, (uint64_t)memcmp(freed, lost, losses * sizeof *lost), 0);
+    expect("gained by table", row, (uint64_t)memcmp(gained, won, wins * sizeof *won), 0);
+}
+
+static void check_drawn_tables(void) {
+    uint64_t state = 7;
+    for (uint64_t row = 0; row < 4000; row++) {
+        check_drawn_table(row, &state);
+    }
+}
+
+/* By a header: how many bytes of a table of which one number is not 0, an edit, and the fault. Then what is told of a bad
+ * entry or edit, and how many elements are needed. UINT64_MAX is what nothing was written to. */
+static const struct {
+    uint32_t version, bits;
+    size_t length, place;
+    uint64_t number;
+    zq_edit edit;
+    size_t room;
+    uint32_t fault;
+    size_t bad, freed, gained;
+} refused_edits[] = {
+    {2, 8, 7, 0, 0, {2, 0, 0, 0}, 0, ZQ_VERSION_NEEDED, SIZE_MAX, SIZE_MAX, SIZE_MAX},
+    {2, 9, 512, 0, 2, {3, 0, 0, 0}, 1, ZQ_VERSION_NEEDED, SIZE_MAX, SIZE_MAX, SIZE_MAX},
+    {3, 8, 512, 0, 2, {2, 0, 0, 0}, 1, ZQ_CLUSTER_SIZE, SIZE_MAX, SIZE_MAX, SIZE_MAX},
+    {3, 9, 504, 0, 2, {2, 0, 0, 0}, 1, ZQ_WRONG_LENGTH, SIZE_MAX, SIZE_MAX, SIZE_MAX},
+    {3, 9, 1024, 0, 2, {2, 0, 0, 0}, 1, ZQ_WRONG_LENGTH, SIZE_MAX, SIZE_MAX, SIZE_MAX},
+    {3, 9, 512, 504, 2, {9, 0, 0, 0}, 1, ZQ_ENTRY_RESERVED, 63, SIZE_MAX, SIZE_MAX},
+    {3, 16, 1 << 16, 16, 512, {2, 0, 0, 0}, 0, ZQ_ENTRY_UNALIGNED, 2, SIZE_MAX, SIZE_MAX},
+    {3, 9, 512, 0, 1024, {0, 0, 0, 0}, 0, ZQ_BAD_EDIT, 0, SIZE_MAX, SIZE_MAX},
+    {3, 9, 512, 0, 1024, {5, 0, 0, 0}, 1, ZQ_BAD_EDIT, 0, SIZE_MAX, SIZE_MAX},
+    {3, 9, 512, 0, 1024, {4, 0, 64, 0}, 1, ZQ_BAD_EDIT, 0, SIZE_MAX, SIZE_MAX},
+    {3, 9, 512, 0, 1024, {4, 0, UINT64_MAX, 0}, 1, ZQ_BAD_EDIT, 0, SIZE_MAX, SIZE_MAX},
+    {3, 9, 512, 0, 1024, {1, 0, 0, 0x500}, 1, ZQ_BAD_EDIT, 0, SIZE_MAX, SIZE_MAX},
+    {3, 9, 512, 0, 1024, {1, 0, 0, 0}, 1, ZQ_BAD_EDIT, 0, SIZE_MAX, SIZE_MAX},
+    {3, 9, 512, 0, 1024, {1, 0, 0, UINT64_C(1) << 56}, 1, ZQ_BAD_EDIT, 0, SIZE_MAX, SIZE_MAX},
+    {3, 9, 512, 0, 1024, {1, 0, 0, 1536}, 0, ZQ_WRONG_LENGTH, SIZE_MAX, 1, 1},
+    {2, 9, 512, 0, 1024, {4, 0, 0, 0}, 0, ZQ_WRONG_LENGTH, SIZE_MAX, 1, 0},
+};
+
+static void check_refused_edits(void) {
+    static uint8_t bytes[1 << 16];
+    for (size_t i = 0; i < sizeof refused_edits / sizeof *refused_edits; i++) {
+        zq_header header = {refused_edits[i].version, refused_edits[i].bits, 4, 0, 0, 0, 0, 0, 0, 0, 0, 0, 0, 0, {0, 0}, {0, 0}, {0, 0}};
+        size_t length = refused_edits[i].length, room = refused_edits[i].room;
+        size_t freed_count = SIZE_MAX, gained_count = SIZE_MAX, bad = SIZE_MAX;
+        zq_clusters freed;
+        uint64_t gained;
+        FILL(freed);
+        FILL(gained);
+        memset(bytes, 0, sizeof bytes);
+        put(bytes, refused_edits[i].place, 8, refused_edits[i].number);
+        uint8_t *given = (uint8_t *)(uintptr_t)guarded(bytes, length);
+        expect("zq_l2_edit of refused row", i,
+               zq_l2_edit(given, length, &header, &refused_edits[i].edit, 1, room ? &freed : NULL, room, &freed_count,
+                          room ? &gained : NULL, room, &gained_count, &bad),
+               refused_edits[i].fault);
+        expect("table of row", i, (uint64_t)memcmp(given, bytes, length), 0);
+        expect("bad of row", i, bad, refused_edits[i].bad);
+        expect("ranges that row frees", i, freed_count, refused_edits[i].freed);
+        expect("clusters that row gains", i, gained_count, refused_edits[i].gained);
+        EXPECT_UNTOUCHED("freed of row", i, freed);
+        EXPECT_UNTOUCHED("gained of row", i, gained);
+    }
+}
+
+/* Edits one table. After a fault prints its number, and that something has changed if it has. */
+static int edit_once(void) {
+    static const zq_edit edits[] = {{ZQ_EDIT_DISCARD, 0, 0, 0}, {ZQ_EDIT_MAP, 0, 1, 1536}};
+    zq_header header = {3, 9, 4, 0, 0, 0, 0, 0, 0, 0, 0, 0, 0, 0, {0, 0}, {0, 0}, {0, 0}};
+    uint8_t table[512] = {0, 0, 0, 0, 0, 0, 4, 0}, before[512];
+    zq_clusters freed;
+    uint64_t gained;
+    size_t freed_count, gained_count, bad;
+    FILL(freed);
+    FILL(gained);
+    memcpy(before, table, sizeof table);
+    uint32_t fault = zq_l2_edit(table, sizeof table, &header, edits, 2, &freed, 1, &freed_count, &gained, 1, &gained_count, &bad);
+    if (fault != ZQ_OK) {
+        fprintf(stderr, "edit: fault %u\n", (unsigned)fault);
+        expect("changed bytes after fault", fault, memcmp(table, before, sizeof table) != 0, 0);
+        EXPECT_UNTOUCHED("freed after fault", fault, freed);
+        EXPECT_UNTOUCHED("gained after fault", fault, gained);
+    }
+    return fault != ZQ_OK;
+}
+
 enum { TOGETHER = 3 };
 
 static void print_extent(const zq_extent *extent) {
@@ -880,6 +1037,9 @@ int main(int count, char **words) {
     if (count == 2 && strcmp(words[1], "settle") == 0) {
         return settle_once();
     }
+    if (count == 2 && strcmp(words[1], "edit") == 0) {
+        return edit_once();
+    }
     if (count == 3) {
         int is_map = strcmp(words[1], "map") == 0, is_check = strcmp(words[1], "check") == 0;
         return print_file(words[2], is_map ? print_map : is_check ? print_check : print_lookups);
@@ -897,6 +1057,8 @@ int main(int count, char **words) {
     check_refused_refcounts();
     check_settled_refcounts();
     check_refused_settles();
+    check_drawn_tables();
+    check_refused_edits();
     check_extents();
     check_no_parts();
     return failures != 0;

@@ -397,6 +397,75 @@ static uint64_t times_in_list(const uint64_t *list, size_t count, uint64_t clust
     return times;
 }
 
+/* How many entries of a table of 512 bytes refer to a cluster. */
+static uint64_t references(const uint8_t *table, const zq_header *header, uint64_t cluster) {
+    uint64_t times = 0;
+    for (size_t i = 0; i < 64; i++) {
+        zq_mapping mapping;
+        plain_l2(get(table, 8 * i, 8), header, 0, &mapping);
+        int has_clusters = mapping.kind == ZQ_DATA || mapping.kind == ZQ_ZERO_ALLOCATED || mapping.kind == ZQ_COMPRESSED;
+        times += has_clusters && mapping.offset >> 9 <= cluster && cluster <= (mapping.offset + mapping.length - 1) >> 9;
+    }
+    return times;
+}
+
+/* What the cluster of an edited entry reads as, by its last edit: the kind, and for data where it begins. */
+static void expect_edited(const uint8_t *table, const zq_header *header, const zq_edit *edit, uint32_t before) {
+    zq_mapping mapping;
+    plain_l2(get(table, 8 * edit->index, 8), header, 0, &mapping);
+    int keeps = edit->kind == ZQ_EDIT_ZERO_KEEP && (before == ZQ_DATA || before == ZQ_ZERO_ALLOCATED);
+    uint32_t kind = edit->kind == ZQ_EDIT_MAP ? ZQ_DATA : edit->kind == ZQ_EDIT_DISCARD ? ZQ_BACKING
+                    : keeps ? ZQ_ZERO_ALLOCATED : ZQ_ZERO;
+    expect("the kind after an edit", mapping.kind, kind);
+    if (edit->kind == ZQ_EDIT_MAP) {
+        expect("where data is mapped to", mapping.offset, edit->host_offset);
+        expect("the flag of mapped data", mapping.copied, 1);
+    }
+}
+
+/* After edits of a table, references and those freed are references before and those gained. Or nothing has changed. */
+static void fuzz_edits(void) {
+    uint8_t bytes[65 * 8];
+    zq_header header = made_up_header(9);
+    size_t edit_count = below(5), room = below(4) ? 4 : below(4), freed_count = 0, gained_count = 0, bad;
+    zq_edit edits[4];
+    zq_clusters freed[4];
+    uint64_t gained[4];
+    zq_mapping mapping;
+    make_table(bytes, 9);
+    header.version = below(8) ? 3 : 2;
+    for (size_t i = 0; i < 4; i++) {
+        edits[i].kind = below(32) ? 1 + (uint32_t)below(4) : (uint32_t)next_random();
+        edits[i].reserved = (uint32_t)next_random();
+        edits[i].index = below(64) ? below(64) : next_random() >> below(64);
+        edits[i].host_offset = below(32) ? 512 * below(64) : next_random() >> below(64);
+    }
+    uint8_t *table = guarded(bytes, 512);
+    FILL(freed);
+    FILL(gained);
+    uint32_t fault = zq_l2_edit(table, 512, &header, edits, edit_count, freed, room, &freed_count, gained, room, &gained_count, &bad);
+    if (fault != ZQ_OK) {
+        expect("the bytes of a table after a fault", (uint64_t)memcmp(bytes, table, 512), 0);
+        EXPECT_UNTOUCHED("ranges after a fault", freed);
+        EXPECT_UNTOUCHED("clusters after a fault", gained);
+        int lacks_room = fault == ZQ_WRONG_LENGTH && (freed_count > room || gained_count > room);
+        int is_expected = lacks_room || fault == ZQ_ENTRY_RESERVED || fault == ZQ_ENTRY_UNALIGNED || fault == ZQ_BAD_EDIT
+                          || fault == ZQ_INCOMPATIBLE || (fault == ZQ_VERSION_NEEDED && header.version == 2);
+        expect("the fault of edits", (uint64_t)is_expected, 1);
+        return;
+    }
+    for (int i = 0; i < 4; i++) {
+        uint64_t cluster = below(68);
+        expect("references after edits",
+               references(table, &header, cluster) + times_in_ranges(freed, freed_count, cluster),
+               references(bytes, &header, cluster) + times_in_list(gained, gained_count, cluster));
+    }
+    if (edit_count == 1) {
+        plain_l2(get(bytes, 8 * edits[0].index, 8), &header, 0, &mapping);
+        expect_edited(table, &header, &edits[0], mapping.kind);
+    }
+}
+
 static void fuzz_counters(const uint8_t *block, size_t length, uint32_t order) {
     uint64_t counters[32];
     size_t entries = order > 6 ? 0 : length * 8 >> order, count = below(33);
@@ -589,7 +658,7 @@ static void fuzz_image(void) {
 /* ---- All of them */
 
 int main(int count, char **words) {
-    static void (*const parts[])(void) = {fuzz_header, fuzz_table, fuzz_block, fuzz_image};
+    static void (*const parts[])(void) = {fuzz_header, fuzz_table, fuzz_edits, fuzz_block, fuzz_image};
     uint64_t most = count > 1 ? strtoull(words[1], NULL, 10) : 200000;
     time_t begin = time(NULL);
     seed = count > 2 ? strtoull(words[2], NULL, 10) : 1;

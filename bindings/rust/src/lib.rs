@@ -9,6 +9,7 @@
 //! | read a header | [`header_bytes`], [`read_header`] |
 //! | read an entry of a table | [`l1_entry`], [`l2_entry`], [`first_bad_l2_entry`] |
 //! | read an L2 table as extents | [`l2_extents`] |
+//! | edit an L2 table | [`edit_l2_table`] |
 //! | read counters of a refcount block, and let them follow edits | [`read_refcounts`], [`settle_refcounts`] |
 //! | look up a guest offset in a whole image | [`image_lookup`] |
 //! | read all extents of a whole image | [`image_extents`] |
@@ -34,6 +35,7 @@
 //! All unsafe code is in one module, `raw`, which passes slices on as pointers with their lengths.
 
 mod check;
+mod edits;
 mod entries;
 mod extents;
 mod fault;
@@ -43,6 +45,7 @@ mod raw;
 mod refcounts;
 
 pub use check::{CheckTotals, Finding, image_check};
+pub use edits::{Edit, Outcome, RefusedEdits, edit_l2_table};
 pub use entries::{BadEntry, L2Pointer, Mapping, first_bad_l2_entry, l1_entry, l2_entry};
 pub use extents::{Content, Extent, ImageExtents, image_extents, l2_extents};
 pub use fault::Fault;

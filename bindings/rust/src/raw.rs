@@ -58,6 +58,16 @@ pub(crate) struct Extent {
     pub(crate) offset: u64,
 }
 
+/// `zq_edit`.
+#[repr(C)]
+#[derive(Clone, Copy, Debug, Default)]
+pub(crate) struct Edit {
+    pub(crate) kind: u32,
+    pub(crate) reserved: u32,
+    pub(crate) index: u64,
+    pub(crate) host_offset: u64,
+}
+
 unsafe extern "C" {
     fn zq_header_bytes(bytes: *const u8, length: usize, cluster_size: *mut usize) -> u32;
     fn zq_header_read(bytes: *const u8, length: usize, header: *mut Header) -> u32;
@@ -83,6 +93,20 @@ unsafe extern "C" {
         extents: *mut Extent,
         capacity: usize,
         count: *mut usize,
+    ) -> u32;
+    fn zq_l2_edit(
+        bytes: *mut u8,
+        length: usize,
+        header: *const Header,
+        edits: *const Edit,
+        edit_count: usize,
+        freed: *mut Clusters,
+        freed_capacity: usize,
+        freed_count: *mut usize,
+        gained: *mut u64,
+        gained_capacity: usize,
+        gained_count: *mut usize,
+        bad: *mut usize,
     ) -> u32;
     fn zq_refcounts_read(
         bytes: *const u8,
@@ -197,6 +221,37 @@ pub(crate) fn l2_extents(
         )
     };
     outcome(number, count)
+}
+
+/// Returns how many clusters were freed and gained. Beside a fault comes the place of what is bad, where it has one.
+pub(crate) fn l2_edit(
+    bytes: &mut [u8],
+    header: &Header,
+    edits: &[Edit],
+    freed: &mut [Clusters],
+    gained: &mut [u64],
+) -> Result<(usize, usize), (Fault, Option<usize>)> {
+    let (begin, length) = (bytes.as_mut_ptr(), bytes.len());
+    let (mut freed_count, mut gained_count, mut bad) = (0, 0, usize::MAX);
+    // SAFETY: as the module says of all calls.
+    let number = unsafe {
+        zq_l2_edit(
+            begin,
+            length,
+            header,
+            edits.as_ptr(),
+            edits.len(),
+            freed.as_mut_ptr(),
+            freed.len(),
+            &mut freed_count,
+            gained.as_mut_ptr(),
+            gained.len(),
+            &mut gained_count,
+            &mut bad,
+        )
+    };
+    let place = (bad != usize::MAX).then_some(bad);
+    outcome(number, (freed_count, gained_count)).map_err(|fault| (fault, place))
 }
 
 /// Returns how many extents there are, at most as many as there is room for, and the fault that comes after them.
