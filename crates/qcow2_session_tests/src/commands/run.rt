@@ -86,7 +86,7 @@ pub(crate) fn check_line(
 // Lines that are no command. A number is 1 to 20 digits that fit 64 bits.
 const NO_COMMANDS: &[&str] = rows! {
     // no words, wrong names, and options
-    "", " ", " IMAGE 9 2", "L2 IMAGE 9 2", "l22 IMAGE 9 2", "IMAGE l2 9 2", "information IMAGE", "--help",
+    "", " ", " IMAGE 9 2", "L2 IMAGE 9 2", "l22 IMAGE 9 2", "IMAGE l2 9 2", "information IMAGE", "--list",
     // a word too few, one too many, and numbers that no cluster has
     "l2", "l2 IMAGE", "l2 IMAGE 9", "l2 IMAGE 9 2 ", "l2 IMAGE 8 2", "l2 IMAGE 22 2", "l2 IMAGE 4294967305 2",
     "l2 IMAGE +9 2", "l2 IMAGE 000000000000000000009 2",
