@@ -10,6 +10,7 @@ qmeta prints what a qcow2 disk image says about itself, and edits it.
   list IMAGE                      what each mapped guest cluster reads as
   map IMAGE [json]                what the whole disk reads as, extent by extent
   at IMAGE OFFSET                 what one guest offset reads as
+  refcount IMAGE CLUSTER..        the counters of host clusters
   check IMAGE [json]              whether counters and flags are what the tables say
   check IMAGE repair              make them so, and check what is left
   apply IMAGE [plan] EDIT..       change what ranges of the disk read as, with all counters
@@ -75,6 +76,17 @@ shell turns hexadecimal into it by $((0x20100000)). Only reads.
 Status 0: printed. 1: a fault. Faults: those of `info`, and 18 to 21 of the L1 table or of the L2 table.
 
   $ qmeta at disk.qcow2 $((0x20100000))
+";
+
+const REFCOUNT: &str = "\
+qmeta refcount IMAGE CLUSTER..
+
+Prints a line for each host cluster: CLUSTER, a space, and its counter, which is 0 where no block counts it. A
+CLUSTER is decimal: the OFFSET that other commands print, divided by 2^cluster-bits. Only reads.
+
+Status 0: printed. 1: a fault, and no line. Faults: those of `info`, and 18 to 21 of the refcount table.
+
+  $ qmeta refcount disk.qcow2 8 9
 ";
 
 const CHECK: &str = "\
@@ -194,6 +206,7 @@ pub fn command_help(name: &str) -> Option<&'static str>
         "list" => Some(LIST),
         "map" => Some(MAP),
         "at" => Some(AT),
+        "refcount" => Some(REFCOUNT),
         "check" => Some(CHECK),
         "apply" => Some(APPLY),
         "edit" => Some(EDIT),
