@@ -17,7 +17,6 @@ pub mod ListingLemmas
 pub mod MapLemmas
 pub mod OutputLemmas
 pub mod PrintingLemmas
-pub mod RefcountLemmas
 pub mod ReportLemmas
 pub mod RunningLemmas
 pub mod RunsLemmas

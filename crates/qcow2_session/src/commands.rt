@@ -19,7 +19,6 @@ mod info;
 mod l2;
 mod list;
 mod map;
-mod refcount;
 mod report;
 mod running;
 mod verdict;
@@ -34,12 +33,11 @@ pub use info::print_info;
 pub use l2::{ClusterBits, list_l2_table};
 pub use list::list_tables;
 pub use map::{ExtentFormat, print_extents};
-pub use refcount::print_counters;
 pub use report::report_fault;
 pub use running::{run, run_words};
 pub use verdict::Verdict;
 use words::alone;
-pub use words::{Arguments, FileName};
+pub use words::{Changes, FileName};
 
 /// What a line of words asks for, of the image that it names.
 #[derive(Drop)]
@@ -56,10 +54,6 @@ pub enum Command {
     At {
         guest_offset: GuestOffset,
     },
-    /// `refcount IMAGE CLUSTER..`: the counters of host clusters.
-    Refcount {
-        clusters: Arguments<HostCluster>,
-    },
     /// `check IMAGE`, or `check IMAGE json`: whether counters and flags are what the tables say. `check IMAGE
     /// repair`: the same after they were made right.
     Check {
@@ -69,17 +63,17 @@ pub enum Command {
     /// EDIT..`: what becomes of clusters by them.
     Apply {
         form: ApplyForm,
-        edits: Arguments<DiskEdit>,
+        edits: Changes<DiskEdit>,
     },
     /// `edit IMAGE L1INDEX EDIT..`: edits of the L2 table of an L1 entry.
     Edit {
         l1_index: usize,
-        edits: Arguments<Edit>,
+        edits: Changes<Edit>,
     },
     /// `count IMAGE CLUSTER STEP..`: steps of the refcount block that begins with a cluster.
     Count {
         cluster: HostCluster,
-        steps: Arguments<Step>,
+        steps: Changes<Step>,
     },
     /// `l2 IMAGE CLUSTER_BITS CLUSTER`: what the L2 table that begins with a cluster maps.
     L2 {
@@ -104,7 +98,6 @@ impl Command {
             "list" => alone(Command::List, arguments),
             "map" => map::parse(arguments),
             "at" => at::parse(arguments),
-            "refcount" => refcount::parse(alloc, arguments),
             "check" => check::parse(alloc, image, arguments),
             "apply" => apply::parse(alloc, arguments),
             "edit" => edit::parse(alloc, arguments),

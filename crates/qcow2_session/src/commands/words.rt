@@ -8,14 +8,13 @@ use super::Command;
 use std::alloc::{AllocError, Global};
 use std::marker::Model;
 
-/// What words of a command line say: edits, steps or clusters, in their order. Contracts see the list of
-/// them.
+/// Edits, or steps, in their order. Contracts see the list of them.
 #[derive(Drop)]
-pub struct Arguments<T> {
+pub struct Changes<T> {
     list: Vec<T>,
 }
 
-impl<T> Model for Arguments<T> {
+impl<T> Model for Changes<T> {
     ghost use Rattle.std.specs.Prelude.{List};
 
     ghost Value = { List T };
@@ -54,17 +53,17 @@ impl FileName {
     }
 }
 
-// What a word can say.
+// A change that a word can say.
 pub(super) trait FromWord: Copy {
     ghost from_word: { List ℕ → Option Self };
 
-    // What a word says, if it says such a thing.
+    // The change that a word says, if it says one.
     fn from_word(word: &str) -> Option<Self>
         ensures { result ≡ from_word word.now };
 }
 
-impl<T> Arguments<T> {
-    /// What the words say.
+impl<T> Changes<T> {
+    /// The edits or steps.
     pub fn as_slice(&self) -> &[T]
         ensures { result.now ≡ self.now }
     {
@@ -72,21 +71,21 @@ impl<T> Arguments<T> {
     }
 }
 
-impl<T: FromWord> Arguments<T> {
-    // What words say, if each says such a thing.
+impl<T: FromWord> Changes<T> {
+    // The changes that words say, if each says one.
     #[tactic(auto, using(crate::proofs::WordsLemmas::values_of_words))]
-    pub(super) fn parse(alloc: Global, words: &[String]) -> Option<Result<Arguments<T>, AllocError>>
+    pub(super) fn parse(alloc: Global, words: &[String]) -> Option<Result<Changes<T>, AllocError>>
         ensures { Parses result (spec.all_values T.from_word (map string_bytes words.now)) }
     {
         let mut list = Vec::with_capacity(alloc, words.len());
         for word in words {
-            let value = T::from_word(word.as_str())?;
+            let change = T::from_word(word.as_str())?;
             if let Ok(list) = &mut list {
-                list.push(value).unwrap();
+                list.push(change).unwrap();
             }
         }
         match list {
-            Ok(list) => Some(Ok(Arguments { list })),
+            Ok(list) => Some(Ok(Changes { list })),
             Err(error) => Some(Err(error)),
         }
     }
