@@ -244,39 +244,3 @@ fn check_calls(alloc: Global, (name, changes, calls): Calls) -> Result<(), Fail>
     extents_of(alloc, &mut image)?;
     same(image.calls.len(), calls, name)
 }
-
-// An offset, the extents that are reported from there on, and how many calls of the storage report them: one
-// for the L1 table, and one for each L2 table.
-type Sought = (u64, &'static [(u64, Part)], usize);
-
-const SOUGHT: &[Sought] = rows! {
-    (0, &[(0, (1536, Absent)), (1536, DATA), (2048, (63488, Absent))], 3),
-    (1537, &[(1537, data!(511, 0xa01)), (2048, (63488, Absent))], 3),
-    (40000, &[(40000, (25536, Absent))], 2),
-    (65535, &[(65535, (1, Absent))], 2),
-    (65536, &[], 1),
-    (MAX, &[], 1),
-};
-
-#[test]
-fn a_reader_begins_anywhere(rt: HostRuntime) -> Result<(), Fail> {
-    each(rt.alloc(), SOUGHT, check_sought)
-}
-
-fn check_sought(alloc: Global, row: Sought) -> Result<(), Fail> {
-    let (offset, parts, calls) = row;
-    let mut image = FailingStorage::new(alloc, sample_image(alloc, 9, TWO_TABLES)?);
-    let header = load_header(alloc, &mut image, false)?;
-    let mut extents = Extents::new(alloc, &mut image, &header)?;
-    extents.seek(GuestOffset(offset));
-    for (start, (length, content)) in parts {
-        let expected = Extent {
-            start: GuestOffset(*start),
-            length: *length,
-            content: *content,
-        };
-        same(extents.next(&mut image)?, Some(expected), offset)?;
-    }
-    same(extents.next(&mut image)?, None, offset)?;
-    same(image.calls.len(), 2 + calls, offset)
-}
