@@ -10,6 +10,7 @@ qmeta prints what a qcow2 disk image says about itself, and edits it.
   list IMAGE                      what each mapped guest cluster reads as
   map IMAGE [json]                what the whole disk reads as, extent by extent
   at IMAGE OFFSET                 what one guest offset reads as
+  refcount IMAGE CLUSTER..        the counters of host clusters
   check IMAGE [json]              whether counters and flags are what the tables say
   check IMAGE repair              make them so, and check what is left
   apply IMAGE [plan] EDIT..       change what ranges of the disk read as, with all counters
@@ -22,6 +23,7 @@ qmeta prints what a qcow2 disk image says about itself, and edits it.
 
 Begin with `qmeta info disk.qcow2` and `qmeta check disk.qcow2`: both only read.
 The status is 0 for success, 1 for a fault, 2 for words that are no command. `check` also has 3 and 4.
+Faults 34 and 35, of a failed call and of memory, may come at any time.
 ";
 
 const VERSION: &str = "\
@@ -69,12 +71,23 @@ Status 0: printed. 1: a fault; extents before it stay. Faults: those of `list`.
 const AT: &str = "\
 qmeta at IMAGE OFFSET
 
-Prints what the guest cluster with the guest offset OFFSET reads as, as `list` does. OFFSET is decimal; a
-shell turns hexadecimal into it by $((0x20100000)). Only reads.
+Prints what the guest cluster with the guest offset OFFSET reads as: what `list` prints after an offset, or
+`backing OFFSET`. OFFSET is decimal; a shell turns hexadecimal into it by $((0x20100000)). Only reads.
 
 Status 0: printed. 1: a fault. Faults: those of `info`, and 18 to 21 of the L1 table or of the L2 table.
 
   $ qmeta at disk.qcow2 $((0x20100000))
+";
+
+const REFCOUNT: &str = "\
+qmeta refcount IMAGE CLUSTER..
+
+Prints a line for each host cluster: CLUSTER, a space, and its counter, which is 0 where no block counts it. A
+CLUSTER is decimal: the OFFSET that other commands print, divided by 2^cluster-bits. Only reads.
+
+Status 0: printed. 1: a fault, and no line. Faults: those of `info`, and 18 to 21 of the refcount table.
+
+  $ qmeta refcount disk.qcow2 8 9
 ";
 
 const CHECK: &str = "\
@@ -98,8 +111,9 @@ const APPLY: &str = "\
 qmeta apply IMAGE EDIT..
 qmeta apply IMAGE plan EDIT..
 
-Changes what ranges of the disk read as, with all counters, so that a crash leaves leaks at most. With
-`plan` it prints the same and writes nothing. An EDIT is one of
+Changes what ranges of the disk read as, with all counters. A crash leaves leaks at most, where tables and
+blocks are apart, as `check` shows. With `plan` it prints the same and writes nothing. Without it, autoclear
+features are cleared, so persistent bitmaps are lost. An EDIT is one of
 
   discard:OFFSET:LENGTH    the range is left to the backing file; discard:OFFSET is one cluster
   zero:OFFSET:LENGTH       it reads as zeros
@@ -120,10 +134,11 @@ qmeta edit IMAGE L1INDEX EDIT..
 
 Changes entries of the L2 table of an L1 entry, and no counter: `apply` is safer. An EDIT is one of
 map:INDEX:CLUSTER, zero:INDEX, keep:INDEX, discard:INDEX. It prints `freed FIRST COUNT` and `gained
-CLUSTER`, whose counters are yours to change by `count`. Copy the image first.
+CLUSTER`, whose counters are yours to change by `count`. Autoclear features are cleared, so persistent bitmaps
+are lost. Copy the image first.
 
-Status 0: all edits are made. 1: a fault; none is made. Faults: those of `info`; 39, 24, 23, 32, and 18 to 21
-of the tables.
+Status 0: all edits are made. 1: a fault; none is made, but that 34 may leave a part, or all where the output
+failed. Faults: those of `info`; 39, 24, 23, 32, and 18 to 21 of the tables.
 
   $ qmeta edit disk.qcow2 1 discard:16
 ";
@@ -133,10 +148,11 @@ qmeta count IMAGE CLUSTER STEP..
 
 Changes counters of the refcount block that begins with a host cluster. A STEP is inc:INDEX or dec:INDEX. It
 prints `ok` and the counter before each step, or `refused` where it would pass 0 or the greatest number.
-CLUSTER is your word: whatever lies there is changed. Copy the image first.
+CLUSTER is your word: whatever lies there is changed. Autoclear features are cleared, so persistent bitmaps
+are lost. Copy the image first.
 
-Status 0: the steps are made, but for those refused. 1: a fault; none is made. Faults: those of `info`; 39,
-24, 21, 33.
+Status 0: the steps are made, but for those refused. 1: a fault; none is made, but that 34 may leave a part,
+or all where the output failed. Faults: those of `info`; 39, 24, 21, 33.
 
   $ qmeta count disk.qcow2 2 dec:9
 ";
@@ -194,6 +210,7 @@ pub fn command_help(name: &str) -> Option<&'static str>
         "list" => Some(LIST),
         "map" => Some(MAP),
         "at" => Some(AT),
+        "refcount" => Some(REFCOUNT),
         "check" => Some(CHECK),
         "apply" => Some(APPLY),
         "edit" => Some(EDIT),

@@ -225,7 +225,8 @@ check IMAGE`.
 const NO_MEMORY: &str = "\
 fault 35, NoMemory: Memory must be left.
 The machine or its limits have too little for the tables of this image.
-Try again with more; nothing was changed, but that a repair may have made some of its steps.
+Try again with more; nothing was changed, but that `edit` and `count` may have
+written the header anew, and a repair may have made some or all of its steps.
 ";
 
 const EXTERNAL_DATA: &str = "\

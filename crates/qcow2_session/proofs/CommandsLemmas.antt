@@ -38,6 +38,10 @@ too_few_words words few = grind (arith, few)
 pub IfSome-follows : {X : Type 0} {P Q : X → Type 0} (found : Option X) → ((x : X) → P x → Q x) → IfSome found P → IfSome found Q
 IfSome-follows found follows holds = grind (arith, follows, holds)
 
+-- what holds of a value that isn't there
+pub IfSome-none : {X : Type 0} (P : X → Type 0) (found : Option X) → found ≡ None → IfSome found P
+IfSome-none P found none = rw none tt
+
 -- a fault of its own is what a run returns
 pub own-refused : {T : Type 0} (ran answer : Result T Fault) → IsErr ran → OnErr ran (answer ≡ ran) → IsErr answer
 own-refused ran answer refused own = grind (arith, refused, own)

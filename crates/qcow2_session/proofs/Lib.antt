@@ -17,6 +17,7 @@ pub mod ListingLemmas
 pub mod MapLemmas
 pub mod OutputLemmas
 pub mod PrintingLemmas
+pub mod RefcountLemmas
 pub mod ReportLemmas
 pub mod RunningLemmas
 pub mod RunsLemmas

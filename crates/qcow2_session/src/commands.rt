@@ -19,6 +19,7 @@ mod info;
 mod l2;
 mod list;
 mod map;
+mod refcount;
 mod report;
 mod running;
 mod verdict;
@@ -33,11 +34,12 @@ pub use info::print_info;
 pub use l2::{ClusterBits, list_l2_table};
 pub use list::list_tables;
 pub use map::{ExtentFormat, print_extents};
+pub use refcount::print_counters;
 pub use report::report_fault;
 pub use running::{run, run_words};
 pub use verdict::Verdict;
 use words::alone;
-pub use words::{Changes, FileName};
+pub use words::{Arguments, FileName};
 
 /// What a line of words asks for, of the image that it names.
 #[derive(Drop)]
@@ -54,6 +56,10 @@ pub enum Command {
     At {
         guest_offset: GuestOffset,
     },
+    /// `refcount IMAGE CLUSTER..`: the counters of host clusters.
+    Refcount {
+        clusters: Arguments<HostCluster>,
+    },
     /// `check IMAGE`, or `check IMAGE json`: whether counters and flags are what the tables say. `check IMAGE
     /// repair`: the same after they were made right.
     Check {
@@ -63,17 +69,17 @@ pub enum Command {
     /// EDIT..`: what becomes of clusters by them.
     Apply {
         form: ApplyForm,
-        edits: Changes<DiskEdit>,
+        edits: Arguments<DiskEdit>,
     },
     /// `edit IMAGE L1INDEX EDIT..`: edits of the L2 table of an L1 entry.
     Edit {
         l1_index: usize,
-        edits: Changes<Edit>,
+        edits: Arguments<Edit>,
     },
     /// `count IMAGE CLUSTER STEP..`: steps of the refcount block that begins with a cluster.
     Count {
         cluster: HostCluster,
-        steps: Changes<Step>,
+        steps: Arguments<Step>,
     },
     /// `l2 IMAGE CLUSTER_BITS CLUSTER`: what the L2 table that begins with a cluster maps.
     L2 {
@@ -98,6 +104,7 @@ impl Command {
             "list" => alone(Command::List, arguments),
             "map" => map::parse(arguments),
             "at" => at::parse(arguments),
+            "refcount" => refcount::parse(alloc, arguments),
             "check" => check::parse(alloc, image, arguments),
             "apply" => apply::parse(alloc, arguments),
             "edit" => edit::parse(alloc, arguments),

@@ -27,6 +27,8 @@ pub(crate) const RUNS: &[Run] = rows! {
     Run { call: Command("at 1543"), reports: "data 0xa00 copied\n", ..OF_A_DISK },
     Run { call: Command("map"), reports: EXTENTS, ..OF_A_DISK },
     Run { call: Command("map json"), reports: JSON, ..OF_A_DISK },
+    Run { call: Command("refcount 5 0"), before: COUNTED, after: COUNTED, reports: "5 2\n0 1\n",
+        ..OF_A_DISK },
     Run { call: Command("check"), before: COUNTED, after: COUNTED, reports: CHECKED, ..OF_A_DISK },
     Run { call: Command("check json"), before: COUNTED, after: COUNTED, reports: OBJECT, ..OF_A_DISK },
     // refused after its one write, it leaves the image repaired

@@ -11,7 +11,7 @@ ghost use Rattle.qcow2_session.specs.Commands.Printing.{PrintsLast, PrintsText, 
 ghost use Rattle.qcow2_session.specs.Commands.Words.{Parses};
 
 use super::Command;
-use super::words::{Changes, FromWord, number, parts};
+use super::words::{Arguments, FromWord, number, parts};
 use crate::lines::{LineBuffer, ToLine, print_lines};
 use qcow2_apply::{ChangedClusters, GuestEdit, KeptCluster, Plan, apply_edits};
 use qcow2_base::{Fault, GuestOffset, HostCluster, Storage};
@@ -223,7 +223,7 @@ fn parse_edits(
     if words.is_empty() {
         return None;
     }
-    match Changes::parse(alloc, words)? {
+    match Arguments::parse(alloc, words)? {
         Ok(edits) => Some(Ok(Command::Apply { form, edits })),
         Err(error) => Some(Err(error)),
     }

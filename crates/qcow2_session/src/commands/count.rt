@@ -8,7 +8,7 @@ ghost use Rattle.qcow2_session.specs.Commands.Printing.{PrintsLast, run_over};
 ghost use Rattle.qcow2_session.specs.Commands.Words.{Parses};
 
 use super::Command;
-use super::words::{Changes, FromWord, number, parts};
+use super::words::{Arguments, FromWord, number, parts};
 use crate::lines::{LineBuffer, ToLine, print_lines};
 use crate::{Step, StepReply, step_image};
 use qcow2_base::{Fault, HostCluster, Storage};
@@ -64,7 +64,7 @@ pub(super) fn parse(alloc: Global, arguments: &[String]) -> Option<Result<Comman
         return None;
     };
     let cluster = HostCluster(number(cluster.as_str())?);
-    match Changes::parse(alloc, words)? {
+    match Arguments::parse(alloc, words)? {
         Ok(steps) => Some(Ok(Command::Count { cluster, steps })),
         Err(error) => Some(Err(error)),
     }

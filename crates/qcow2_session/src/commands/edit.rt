@@ -12,7 +12,7 @@ ghost use Rattle.qcow2_session.specs.Commands.Printing.{PrintsLast, PrintsText, 
 ghost use Rattle.qcow2_session.specs.Commands.Words.{Parses, parts_of};
 
 use super::Command;
-use super::words::{Changes, FromWord, number, parts};
+use super::words::{Arguments, FromWord, number, parts};
 use crate::lines::{LineBuffer, ToLine, print_lines};
 use crate::{Edit, Outcome, edit_image, load_l1_table, named_cluster};
 use qcow2_base::{Fault, HostCluster, Storage};
@@ -105,7 +105,7 @@ pub(super) fn parse(alloc: Global, arguments: &[String]) -> Option<Result<Comman
         return None;
     };
     let l1_index = number(l1_index.as_str())? as usize;
-    match Changes::parse(alloc, words)? {
+    match Arguments::parse(alloc, words)? {
         Ok(edits) => Some(Ok(Command::Edit { l1_index, edits })),
         Err(error) => Some(Err(error)),
     }

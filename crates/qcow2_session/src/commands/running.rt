@@ -22,6 +22,7 @@ use super::info::print_info;
 use super::l2::{new_header, print_l2_table};
 use super::list::list_tables;
 use super::map::print_extents;
+use super::refcount::print_counters;
 use super::report::{refuse_words, report_fault};
 use super::verdict::Verdict;
 use qcow2_base::{Fault, FileStorage, Storage};
@@ -232,6 +233,9 @@ pub fn run<S: Storage, O: Write>(
         Command::Map { format } => fine(print_extents(alloc, image, &header, *format, out)),
         Command::At { guest_offset } => {
             fine(print_mapping_at(alloc, image, &header, *guest_offset, out))
+        }
+        Command::Refcount { clusters } => {
+            fine(print_counters(alloc, image, &header, clusters.as_slice(), out))
         }
         Command::Check { form } => check_in_form(alloc, image, header, form, out),
         Command::Apply { form, edits } => {

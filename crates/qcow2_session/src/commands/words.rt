@@ -8,13 +8,14 @@ use super::Command;
 use std::alloc::{AllocError, Global};
 use std::marker::Model;
 
-/// Edits, or steps, in their order. Contracts see the list of them.
+/// What words of a command line say: edits, steps or clusters, in their order. Contracts see the list of
+/// them.
 #[derive(Drop)]
-pub struct Changes<T> {
+pub struct Arguments<T> {
     list: Vec<T>,
 }
 
-impl<T> Model for Changes<T> {
+impl<T> Model for Arguments<T> {
     ghost use Rattle.std.specs.Prelude.{List};
 
     ghost Value = { List T };
@@ -53,17 +54,17 @@ impl FileName {
     }
 }
 
-// A change that a word can say.
+// What a word can say.
 pub(super) trait FromWord: Copy {
     ghost from_word: { List ℕ → Option Self };
 
-    // The change that a word says, if it says one.
+    // What a word says, if it says such a thing.
     fn from_word(word: &str) -> Option<Self>
         ensures { result ≡ from_word word.now };
 }
 
-impl<T> Changes<T> {
-    /// The edits or steps.
+impl<T> Arguments<T> {
+    /// What the words say.
     pub fn as_slice(&self) -> &[T]
         ensures { result.now ≡ self.now }
     {
@@ -71,21 +72,21 @@ impl<T> Changes<T> {
     }
 }
 
-impl<T: FromWord> Changes<T> {
-    // The changes that words say, if each says one.
+impl<T: FromWord> Arguments<T> {
+    // What words say, if each says such a thing.
     #[tactic(auto, using(crate::proofs::WordsLemmas::values_of_words))]
-    pub(super) fn parse(alloc: Global, words: &[String]) -> Option<Result<Changes<T>, AllocError>>
+    pub(super) fn parse(alloc: Global, words: &[String]) -> Option<Result<Arguments<T>, AllocError>>
         ensures { Parses result (spec.all_values T.from_word (map string_bytes words.now)) }
     {
         let mut list = Vec::with_capacity(alloc, words.len());
         for word in words {
-            let change = T::from_word(word.as_str())?;
+            let value = T::from_word(word.as_str())?;
             if let Ok(list) = &mut list {
-                list.push(change).unwrap();
+                list.push(value).unwrap();
             }
         }
         match list {
-            Ok(list) => Some(Ok(Changes { list })),
+            Ok(list) => Some(Ok(Arguments { list })),
             Err(error) => Some(Err(error)),
         }
     }

@@ -3,7 +3,7 @@
 use super::run::words_of;
 use super::whole_images::INFO;
 use crate::failing_output::{FailingOutput, Failure};
-use crate::sample_image::{COPIED, Numbers, check_sample, sample_image};
+use crate::sample_image::{COPIED, Numbers, check_sample, counted, sample_image};
 use qcow2_base::{Fault, Storage};
 use qcow2_calls::{parse_command, run};
 use qcow2_session::Verdict;
@@ -59,6 +59,19 @@ const ROWS: &[Row] = rows! {
     Row { line: "count IMAGE 3 inc:0 inc:256", answer: Some(Err(Fault::BadStep(1))), ..ROW },
     Row { line: "at IMAGE 0", before: &[(0, 0)], answer: Some(Err(Fault::NotQcow2)), after: &[(0, 0)],
         ..ROW },
+    // the last number is that of a cluster past the refcount table's end
+    Row { line: "refcount IMAGE 5 0 5 6 18446744073709551615", before: counted!((88, 1)),
+        printed: "5 1\n0 1\n5 1\n6 0\n18446744073709551615 0\n", after: counted!((88, 1)), ..ROW },
+    Row { line: "refcount IMAGE 5 4", before: counted!((0x808, 0xfffe_ffff_0000_0000)),
+        printed: "5 65535\n4 65534\n", after: counted!((0x808, 0xfffe_ffff_0000_0000)), ..ROW },
+    Row { line: "refcount IMAGE 0", printed: "0 0\n", ..ROW },
+    Row { line: "refcount IMAGE 0", before: counted!((0x600, 0x801)), answer: Some(Err(Fault::EntryReserved)),
+        after: counted!((0x600, 0x801)), ..ROW },
+    // a block that no word needs ends past 2^56
+    Row { line: "refcount IMAGE 0", before: counted!((0x608, 1 << 56)), answer: Some(Err(Fault::TablePlace)),
+        after: counted!((0x608, 1 << 56)), ..ROW },
+    Row { line: "refcount IMAGE", answer: None, ..ROW },
+    Row { line: "refcount IMAGE 0 -1", answer: None, ..ROW },
     Row { line: "map IMAGE", printed: EXTENTS, ..ROW },
     Row { line: "map IMAGE json", printed: JSON, ..ROW },
     // a bit that is reserved in the last entry of the L2 table: `[` is printed, and no extent

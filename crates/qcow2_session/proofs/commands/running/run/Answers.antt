@@ -31,6 +31,16 @@ returns-in-At-clause-at_once g c = λ silent.
     last-with (facts_of c.args.command.now) c.in_ok-header.header _ _ c.in_ok-header.ensures
     (rw c.fine-in-At.ensures.answer (fine-PrintsLast c.print_mapping_at.result _ _ _ _ _ c.print_mapping_at.ensures.last))
 
+pub returns-in-Refcount-clause-runs : goal.returns-in-Refcount-clause-runs
+returns-in-Refcount-clause-runs g c = runs-with (facts_of c.args.command.now) c.in_ok-header.header _ _ c.in_ok-header.ensures
+    (rw (c.in-Refcount.is, c.fine-in-Refcount.ensures.answer)
+    (fine-Prints c.print_counters.result _ _ _ _ _ _ (rw c.as_slice.ensures at c.print_counters.ensures.prints)))
+
+pub returns-in-Refcount-clause-at_once : goal.returns-in-Refcount-clause-at_once
+returns-in-Refcount-clause-at_once g c = λ silent.
+    last-with (facts_of c.args.command.now) c.in_ok-header.header _ _ c.in_ok-header.ensures
+    (rw c.fine-in-Refcount.ensures.answer (fine-PrintsLast c.print_counters.result _ _ _ _ _ c.print_counters.ensures.last))
+
 pub returns-in-Check-clause-runs : goal.returns-in-Check-clause-runs
 returns-in-Check-clause-runs g c = runs-with (facts_of c.args.command.now) c.in_ok-header.header _ _ c.in_ok-header.ensures
     (rw c.in-Check.is c.check_in_form.ensures.ends)
@@ -41,7 +51,7 @@ returns-in-Check-clause-at_once g c = λ silent.
 
 pub returns-in-Apply-clause-runs : goal.returns-in-Apply-clause-runs
 returns-in-Apply-clause-runs g c = runs-with (facts_of c.args.command.now) c.in_ok-header.header _ _ c.in_ok-header.ensures
-    (rw (c.in-Apply.is, c.fine-in-Apply.ensures.answer) (fine-EndsApply c.edit_disk.result _ _ _ g.O.Write.contents _ _ _ _ (rw c.as_slice.ensures at c.edit_disk.ensures.ends)))
+    (rw (c.in-Apply.is, c.fine-in-Apply.ensures.answer) (fine-EndsApply c.edit_disk.result _ _ _ g.O.Write.contents _ _ _ _ (rw c.as_slice-in-Apply.ensures at c.edit_disk.ensures.ends)))
 
 pub returns-in-Apply-clause-at_once : goal.returns-in-Apply-clause-at_once
 returns-in-Apply-clause-at_once g c = λ silent.

@@ -3,7 +3,7 @@ use Rattle.std.specs.Option.{IsSome}
 use Rattle.std.specs.Result.{IfOk}
 use Rattle.std.specs.Vec.{vec_capacity}
 use Rattle.qcow2_session.specs.Commands.Words.{all_values}
-use Rattle.qcow2_session.proofs.commands.words.Changes.parse.Given as goal
+use Rattle.qcow2_session.proofs.commands.words.Arguments.parse.Given as goal
 
 -- the words before this one say what is in the list, if there is memory for one, and it has room for the others
 abbrev pub invariant-loop-word : goal.invariant-loop-word
