@@ -10,6 +10,7 @@ qmeta prints what a qcow2 disk image says about itself, and edits it.
   list IMAGE                      what each mapped guest cluster reads as
   map IMAGE [json]                what the whole disk reads as, extent by extent
   at IMAGE OFFSET                 what one guest offset reads as
+  tables IMAGE                    where the header, tables and refcount blocks lie
   refcount IMAGE CLUSTER..        the counters of host clusters
   check IMAGE [json]              whether counters and flags are what the tables say
   check IMAGE repair              make them so, and check what is left
@@ -77,6 +78,20 @@ Prints what the guest cluster with the guest offset OFFSET reads as: what `list`
 Status 0: printed. 1: a fault. Faults: those of `info`, and 18 to 21 of the L1 table or of the L2 table.
 
   $ qmeta at disk.qcow2 $((0x20100000))
+";
+
+const TABLES: &str = "\
+qmeta tables IMAGE
+
+Prints where everything lies, by host clusters: `header 0 1`, `l1 FIRST COUNT`, `l2 L1INDEX CLUSTER OFFSET
+LENGTH COUNTER` for each L2 table, with what it maps of the disk, `refcount-table FIRST COUNT`, and
+`refcount-block INDEX CLUSTER FIRST` for each block, with the first cluster that it counts. L1INDEX is that of
+`edit`, and CLUSTER that of `l2` and `count`. L2 tables aren't read. Only reads.
+
+Status 0: printed. 1: a fault, and no line. Faults: those of `info`, and 18 to 21 of the L1 table or of the
+refcount table.
+
+  $ qmeta tables disk.qcow2
 ";
 
 const REFCOUNT: &str = "\
@@ -210,6 +225,7 @@ pub fn command_help(name: &str) -> Option<&'static str>
         "list" => Some(LIST),
         "map" => Some(MAP),
         "at" => Some(AT),
+        "tables" => Some(TABLES),
         "refcount" => Some(REFCOUNT),
         "check" => Some(CHECK),
         "apply" => Some(APPLY),

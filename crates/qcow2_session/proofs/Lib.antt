@@ -21,5 +21,6 @@ pub mod RefcountLemmas
 pub mod ReportLemmas
 pub mod RunningLemmas
 pub mod RunsLemmas
+pub mod TablesLemmas
 pub mod VerdictLemmas
 pub mod WordsLemmas

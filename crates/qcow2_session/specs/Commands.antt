@@ -16,6 +16,7 @@ pub mod Printing
 pub mod Refcount
 pub mod Report
 pub mod Running
+pub mod Tables
 pub mod Verdict
 pub mod Words
 use Rattle.std.specs.Prelude.{◌≡◌, if◌then◌else◌, ◌∷◌, Option, None, bytes_eq, codes}
@@ -31,6 +32,7 @@ use Rattle.qcow2_session.specs.Commands.L2.{l2_command, l2_facts}
 use Rattle.qcow2_session.specs.Commands.List.{list_facts}
 use Rattle.qcow2_session.specs.Commands.Map.{map_command, map_facts}
 use Rattle.qcow2_session.specs.Commands.Refcount.{refcount_command, refcount_facts}
+use Rattle.qcow2_session.specs.Commands.Tables.{tables_facts}
 use Rattle.qcow2_session.specs.Commands.Words.{Word, WordList, command_alone}
 use Rattle.qcow2_session.specs.declared.commands.Command.{Command}
 use Rattle.qcow2_session.specs.declared.commands.Command.TheVariants as command
@@ -42,6 +44,7 @@ command_by_name name image arguments =
     else if bytes_eq name (codes "list") then command_alone command.List arguments
     else if bytes_eq name (codes "map") then map_command arguments
     else if bytes_eq name (codes "at") then at_command arguments
+    else if bytes_eq name (codes "tables") then command_alone command.Tables arguments
     else if bytes_eq name (codes "refcount") then refcount_command arguments
     else if bytes_eq name (codes "check") then check_command image arguments
     else if bytes_eq name (codes "edit") then edit_command arguments
@@ -65,6 +68,7 @@ facts_of command.Info = info_facts
 facts_of command.List = list_facts
 facts_of (command.Map format) = map_facts format
 facts_of (command.At guest_offset) = at_facts guest_offset.0
+facts_of command.Tables = tables_facts
 facts_of (command.Refcount clusters) = refcount_facts clusters
 facts_of (command.Check form) = check_facts form
 facts_of (command.Apply form edits) = apply_facts form edits

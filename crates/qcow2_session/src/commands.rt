@@ -22,6 +22,7 @@ mod map;
 mod refcount;
 mod report;
 mod running;
+mod tables;
 mod verdict;
 mod words;
 
@@ -37,6 +38,7 @@ pub use map::{ExtentFormat, print_extents};
 pub use refcount::print_counters;
 pub use report::report_fault;
 pub use running::{run, run_words};
+pub use tables::print_tables;
 pub use verdict::Verdict;
 use words::alone;
 pub use words::{Arguments, FileName};
@@ -56,6 +58,8 @@ pub enum Command {
     At {
         guest_offset: GuestOffset,
     },
+    /// `tables IMAGE`: where the header, the tables and the refcount blocks lie.
+    Tables,
     /// `refcount IMAGE CLUSTER..`: the counters of host clusters.
     Refcount {
         clusters: Arguments<HostCluster>,
@@ -104,6 +108,7 @@ impl Command {
             "list" => alone(Command::List, arguments),
             "map" => map::parse(arguments),
             "at" => at::parse(arguments),
+            "tables" => alone(Command::Tables, arguments),
             "refcount" => refcount::parse(alloc, arguments),
             "check" => check::parse(alloc, image, arguments),
             "apply" => apply::parse(alloc, arguments),

@@ -27,6 +27,7 @@ pub(crate) const RUNS: &[Run] = rows! {
     Run { call: Command("at 1543"), reports: "data 0xa00 copied\n", ..OF_A_DISK },
     Run { call: Command("map"), reports: EXTENTS, ..OF_A_DISK },
     Run { call: Command("map json"), reports: JSON, ..OF_A_DISK },
+    Run { call: Command("tables"), before: COUNTED, after: COUNTED, reports: PLACES, ..OF_A_DISK },
     Run { call: Command("refcount 5 0"), before: COUNTED, after: COUNTED, reports: "5 2\n0 1\n",
         ..OF_A_DISK },
     Run { call: Command("check"), before: COUNTED, after: COUNTED, reports: CHECKED, ..OF_A_DISK },
@@ -71,6 +72,10 @@ const COUNTED: Numbers = &[
     (0x808, 0x0001_0002_0000_0001),
     (0x9f8, 0),
 ];
+
+// Where everything lies in it.
+const PLACES: &str =
+    "header 0 1\nl1 1 1\nl2 0 2 0x0 0x8000 1\nrefcount-table 3 1\nrefcount-block 0 4 0\n";
 
 // The same where each counter is its cluster's uses.
 const REPAIRED: Numbers = &[

@@ -162,7 +162,7 @@ pub(super) fn parse(
     }
 }
 
-// Prints the report on the image that a reader is at the begin of, and returns its verdict.
+// Prints the report on the image that a reader is at the start of, and returns its verdict.
 fn print_report<S: Storage, O: Write>(
     findings: Findings<'_>,
     image: &mut S,

@@ -24,6 +24,7 @@ use super::list::list_tables;
 use super::map::print_extents;
 use super::refcount::print_counters;
 use super::report::{refuse_words, report_fault};
+use super::tables::print_tables;
 use super::verdict::Verdict;
 use qcow2_base::{Fault, FileStorage, Storage};
 use qcow2_buffered::BufferedStorage;
@@ -234,6 +235,7 @@ pub fn run<S: Storage, O: Write>(
         Command::At { guest_offset } => {
             fine(print_mapping_at(alloc, image, &header, *guest_offset, out))
         }
+        Command::Tables => fine(print_tables(alloc, image, &header, out)),
         Command::Refcount { clusters } => {
             fine(print_counters(alloc, image, &header, clusters.as_slice(), out))
         }

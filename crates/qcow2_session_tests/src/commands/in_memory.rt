@@ -45,6 +45,9 @@ pub(crate) const JSON: &str = "[{ \"start\": 0, \"length\": 1536, \"depth\": 0, 
 pub(crate) const EXTENTS: &str =
     "0x0 0x600 backing\n0x600 0x200 data 0xa00\n0x800 0x7800 backing\n";
 
+const TABLES: &str =
+    "header 0 1\nl1 1 1\nl2 0 2 0x0 0x8000 1\nrefcount-table 3 1\nrefcount-block 0 4 0\n";
+
 const ROWS: &[Row] = rows! {
     Row { line: "l2 IMAGE 9 2", before: &[(0, 0)], printed: "3 data 0xa00 copied\n", after: &[(0, 0)],
         ..ROW },
@@ -59,6 +62,15 @@ const ROWS: &[Row] = rows! {
     Row { line: "count IMAGE 3 inc:0 inc:256", answer: Some(Err(Fault::BadStep(1))), ..ROW },
     Row { line: "at IMAGE 0", before: &[(0, 0)], answer: Some(Err(Fault::NotQcow2)), after: &[(0, 0)],
         ..ROW },
+    // a table of 64 entries maps 32 KiB, and a block of 256 counters counts from cluster 0 on
+    Row { line: "tables IMAGE", before: counted!((88, 1)), printed: TABLES, after: counted!((88, 1)), ..ROW },
+    // the header names no refcount table
+    Row { line: "tables IMAGE", printed: "header 0 1\nl1 1 1\nl2 0 2 0x0 0x8000 0\nrefcount-table 0 0\n", ..ROW },
+    Row { line: "tables IMAGE", before: &[(512, 1)], answer: Some(Err(Fault::EntryReserved)), after: &[(512, 1)],
+        ..ROW },
+    Row { line: "tables IMAGE", before: counted!((0x608, 1 << 56)), answer: Some(Err(Fault::TablePlace)),
+        after: counted!((0x608, 1 << 56)), ..ROW },
+    Row { line: "tables IMAGE 0", answer: None, ..ROW },
     // the last number is that of a cluster past the refcount table's end
     Row { line: "refcount IMAGE 5 0 5 6 18446744073709551615", before: counted!((88, 1)),
         printed: "5 1\n0 1\n5 1\n6 0\n18446744073709551615 0\n", after: counted!((88, 1)), ..ROW },

@@ -60,7 +60,7 @@ impl Found {
     }
 }
 
-// Counts the findings of the image that a reader is at the begin of.
+// Counts the findings of the image that a reader is at the start of.
 fn count_findings<S: Storage>(
     findings: &mut Findings<'_>,
     image: &mut S,
@@ -107,7 +107,7 @@ fn count_flags<S: Storage>(
     Ok(totals)
 }
 
-// The totals of the image that a reader of findings is at the begin of, and where it ends.
+// The totals of the image that a reader of findings is at the start of, and where it ends.
 fn totals_and_end<S: Storage>(
     findings: Findings<'_>,
     image: &mut S,

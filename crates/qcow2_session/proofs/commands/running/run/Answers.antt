@@ -31,6 +31,15 @@ returns-in-At-clause-at_once g c = λ silent.
     last-with (facts_of c.args.command.now) c.in_ok-header.header _ _ c.in_ok-header.ensures
     (rw c.fine-in-At.ensures.answer (fine-PrintsLast c.print_mapping_at.result _ _ _ _ _ c.print_mapping_at.ensures.last))
 
+pub returns-in-Tables-clause-runs : goal.returns-in-Tables-clause-runs
+returns-in-Tables-clause-runs g c = runs-with (facts_of c.args.command.now) c.in_ok-header.header _ _ c.in_ok-header.ensures
+    (rw (c.in-Tables.is, c.fine-in-Tables.ensures.answer) (fine-Prints c.print_tables.result _ _ _ _ _ _ c.print_tables.ensures.prints))
+
+pub returns-in-Tables-clause-at_once : goal.returns-in-Tables-clause-at_once
+returns-in-Tables-clause-at_once g c = λ silent.
+    last-with (facts_of c.args.command.now) c.in_ok-header.header _ _ c.in_ok-header.ensures
+    (rw c.fine-in-Tables.ensures.answer (fine-PrintsLast c.print_tables.result _ _ _ _ _ c.print_tables.ensures.last))
+
 pub returns-in-Refcount-clause-runs : goal.returns-in-Refcount-clause-runs
 returns-in-Refcount-clause-runs g c = runs-with (facts_of c.args.command.now) c.in_ok-header.header _ _ c.in_ok-header.ensures
     (rw (c.in-Refcount.is, c.fine-in-Refcount.ensures.answer)
