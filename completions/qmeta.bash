@@ -6,6 +6,7 @@ _qmeta_commands=(
     'list IMAGE'
     'map IMAGE json'
     'at IMAGE OFFSET'
+    'tables IMAGE'
     'refcount IMAGE CLUSTER..'
     'check IMAGE json|repair'
     'apply IMAGE plan|EDIT EDIT..'
@@ -13,7 +14,7 @@ _qmeta_commands=(
     'count IMAGE CLUSTER STEP..'
     'l2 IMAGE CLUSTER_BITS CLUSTER'
     'help COMMAND'
-    'explain FAULT'
+    'explain FAULT IMAGE'
     'version'
 )
 

@@ -7,6 +7,7 @@ set -g __qmeta_commands \
     'list IMAGE:what each mapped guest cluster reads as' \
     'map IMAGE json:what the whole disk reads as, extent by extent' \
     'at IMAGE OFFSET:what one guest offset reads as' \
+    'tables IMAGE:where the header, tables and refcount blocks lie' \
     'refcount IMAGE CLUSTER..:the counters of host clusters' \
     'check IMAGE json|repair:whether counters and flags are what the tables say' \
     'apply IMAGE plan|EDIT EDIT..:change what ranges of the disk read as, with all counters' \
@@ -14,7 +15,7 @@ set -g __qmeta_commands \
     'count IMAGE CLUSTER STEP..:change counters of one refcount block' \
     'l2 IMAGE CLUSTER_BITS CLUSTER:list one L2 table, whatever the header says' \
     'help COMMAND:all commands, or one of them in full' \
-    'explain FAULT:what a fault means and what helps' \
+    'explain FAULT IMAGE:what a fault means, and where it is in an image' \
     'version:the version of the program'
 
 # What may stand at the cursor, as a command's line says it, one a line.

@@ -20,6 +20,7 @@ qmeta prints what a qcow2 disk image says about itself, and edits it.
   l2 IMAGE CLUSTER_BITS CLUSTER   list one L2 table, whatever the header says
   help [COMMAND]                  this text, or what a command prints, with its statuses and faults
   explain [N]                     what fault N means and what helps, or all faults
+  explain N IMAGE                 the same, and where in the image it is
   version                         the version of this program
 
 Begin with `qmeta info disk.qcow2` and `qmeta check disk.qcow2`: both only read.
@@ -188,15 +189,20 @@ qmeta help
 qmeta help COMMAND
 qmeta explain
 qmeta explain N
+qmeta explain N IMAGE
 qmeta version
 
 `help` prints all commands, or one command's words, lines, statuses and faults. `explain` prints all faults,
-or of fault N what must hold, what mostly breaks it, and what helps. `--help`, `-h` and `--version` do the
-same. None opens an image.
+or of fault N what must hold, what mostly breaks it, and what helps. With IMAGE it goes on with lines on where
+in the image that is: the field of the header, the extension or the entry, each with its place and its value,
+or the system's word on the file. Only reads. `--help`, `-h` and `--version` do the same as `help` and
+`version`. These open no image.
 
-Status 0: printed. 1: fault 34, where the output failed.
+Status 0: printed, also where the image doesn't have the fault. 1: fault 34, where the output failed, or with
+IMAGE a read; with IMAGE also 35.
 
   $ qmeta explain 17
+  $ qmeta explain 18 disk.qcow2
 ";
 
 /// All commands, a line each, and where to read on.

@@ -10,6 +10,7 @@ pub mod EditedEntryLemmas
 pub mod EditedImageLemmas
 pub mod EditedReadsLemmas
 pub mod EditedTableLemmas
+pub mod ExplainLemmas
 pub mod HarmLemmas
 pub mod HelpLemmas
 pub mod HexLemmas

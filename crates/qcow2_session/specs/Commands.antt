@@ -6,6 +6,7 @@ pub mod Check
 pub mod Count
 pub mod Edit
 pub mod Entries
+pub mod Explain
 pub mod Facts
 pub mod Help
 pub mod Info
@@ -25,6 +26,7 @@ use Rattle.qcow2_session.specs.Commands.At.{at_command, at_facts}
 use Rattle.qcow2_session.specs.Commands.Check.{check_command, check_facts}
 use Rattle.qcow2_session.specs.Commands.Count.{count_command, count_facts}
 use Rattle.qcow2_session.specs.Commands.Edit.{edit_command, edit_facts}
+use Rattle.qcow2_session.specs.Commands.Explain.{explained_text}
 use Rattle.qcow2_session.specs.Commands.Facts.{CommandFacts}
 use Rattle.qcow2_session.specs.Commands.Help.{asked_text}
 use Rattle.qcow2_session.specs.Commands.Info.{info_facts}
@@ -58,9 +60,9 @@ abbrev pub command_of : WordList → Option Command
 command_of (name ∷ image ∷ arguments) = command_by_name name image arguments
 command_of _ = None
 
--- words that ask for no command and for no text
+-- words that ask for no command, for no text, and for no fault's place
 abbrev pub AskForNothing : WordList → Type 0
-AskForNothing words = (command_of words ≡ None) × (asked_text words ≡ None)
+AskForNothing words = (command_of words ≡ None) × (asked_text words ≡ None) × (explained_text words ≡ None)
 
 -- the facts of a command
 abbrev pub facts_of : Command → CommandFacts

@@ -4,6 +4,7 @@ mod apply;
 pub(crate) mod check;
 pub(crate) mod check_json;
 mod check_repair;
+mod explain;
 pub(crate) mod in_memory;
 pub(crate) mod run;
 pub(crate) mod whole_images;

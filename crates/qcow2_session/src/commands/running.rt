@@ -4,6 +4,7 @@ ghost use Rattle.std.specs.Prelude.{◌≡◌, ◌≢◌, ◌≤◌, ◌↔◌, 
 ghost use Rattle.std.specs.Io.KnownBytes.{Keeps};
 ghost use Rattle.qcow2_base.specs.declared.fault.Fault.TheVariants.{Storage as StorageFailed};
 ghost use Rattle.qcow2_session.specs.Commands.{AskForNothing, command_of, facts_of};
+ghost use Rattle.qcow2_session.specs.Commands.Explain.{PrintsExplained, explained_text};
 ghost use Rattle.qcow2_session.specs.Commands.Help.{PrintsAsked, asked_text, text_of};
 ghost use Rattle.qcow2_session.specs.Commands.Printing.{AppendsPart, PrintsLast, run_over};
 ghost use Rattle.qcow2_session.specs.Commands.Report.{Reports, fault_line};
@@ -17,6 +18,7 @@ use super::at::print_mapping_at;
 use super::check::check_in_form;
 use super::count::count_references;
 use super::edit::edit_entries;
+use super::explain::Question;
 use super::help::HelpText;
 use super::info::print_info;
 use super::l2::{new_header, print_l2_table};
@@ -26,6 +28,7 @@ use super::refcount::print_counters;
 use super::report::{refuse_words, report_fault};
 use super::tables::print_tables;
 use super::verdict::Verdict;
+use crate::lines::print;
 use qcow2_base::{Fault, FileStorage, Storage};
 use qcow2_buffered::BufferedStorage;
 use qcow2_metadata::Header;
@@ -39,9 +42,10 @@ use std::{fs, io};
 /// what a command found that is wrong with its image.
 ///
 /// What the command finds goes to `out`, where lines before a fault stay. `help`, `explain` and `version`
-/// print a text there, and open no image. A fault is the line `qmeta: fault N` on `err`, wrong words are the
-/// usage line there. `out` is flushed after a command, `err` after a line on it. A failed write to `out` is
-/// the storage fault; one to `err` changes nothing.
+/// print a text there, and open no image; `explain` of an image goes on with lines on where in it the fault
+/// is. A fault is the line `qmeta: fault N` on `err`, wrong words are the usage line there. `out` is flushed
+/// after a command, `err` after a line on it. A failed write to `out` is the storage fault; one to `err`
+/// changes nothing.
 #[tactic(auto, using(crate::proofs::HelpLemmas::asked_is_no_command))]
 pub fn run_words<R: Files + AllocGlobal, O: Write, E: Write>(
     rt: &R,
@@ -56,7 +60,9 @@ pub fn run_words<R: Files + AllocGlobal, O: Write, E: Write>(
     ensures wrong_words { ((result ≡ 2) ↔ AskForNothing (map string_bytes words.now))
         × (result ≡ 2 → out.new ≡ out.old) }
     ensures text { IfSome (asked_text (map string_bytes words.now)) (λ text.
-        PrintsAsked result text (O.contents out.old) (O.contents out.new)) }
+        PrintsAsked result text (O.contents out.old) (O.contents out.new))
+        × IfSome (explained_text (map string_bytes words.now)) (λ text.
+        PrintsExplained result text (O.contents out.old) (O.contents out.new)) }
     ensures reports { Reports result E.contents err.old err.new }
 
     // A table at a place that no image has is a fault whatever the image, and no line is printed.
@@ -66,8 +72,58 @@ pub fn run_words<R: Files + AllocGlobal, O: Write, E: Write>(
 {
     match HelpText::parse(words) {
         Some(text) => print_asked(text, out, err),
+        None => run_further(rt, words, out, err),
+    }
+}
+
+// Runs words that ask for no text.
+#[tactic(auto, using(crate::proofs::ExplainLemmas::explained_is_no_command))]
+fn run_further<R: Files + AllocGlobal, O: Write, E: Write>(
+    rt: &R,
+    words: &[String],
+    out: &mut O,
+    err: &mut E,
+) -> u8
+    ensures status { (result ≤ 4) × IfSome (command_of (map string_bytes words.now)) (λ command.
+        (facts_of command).has_verdict ≡ false → result ≤ 1) }
+    ensures wrong_words { ((result ≡ 2) ↔ (command_of (map string_bytes words.now) ≡ None)
+        × (explained_text (map string_bytes words.now) ≡ None)) × (result ≡ 2 → out.new ≡ out.old) }
+    ensures explained { IfSome (explained_text (map string_bytes words.now)) (λ text.
+        PrintsExplained result text (O.contents out.old) (O.contents out.new)) }
+    ensures reports { Reports result E.contents err.old err.new }
+    ensures place { IfSome (command_of (map string_bytes words.now)) (λ command.
+        IfSome (facts_of command).place_fault (λ fault.
+        (result ≡ 1) × Keeps (O.contents out.old) (O.contents out.new))) }
+{
+    match Question::parse(words) {
+        Some(question) => explain(rt, &question, out, err),
         None => run_command(rt, words, out, err),
     }
+}
+
+// Prints the text on a fault and where it is in an image, and returns the status.
+fn explain<R: Files + AllocGlobal, O: Write, E: Write>(
+    rt: &R,
+    question: &Question<'_>,
+    out: &mut O,
+    err: &mut E,
+) -> u8
+    ensures text { PrintsExplained result question.now.text.now (O.contents out.old) (O.contents out.new) }
+    ensures reports { Reports result E.contents err.old err.new }
+{
+    match question.answer(rt) {
+        Ok(answer) => print_answer(answer.as_str(), out, err),
+        Err(fault) => report_fault(fault, err),
+    }
+}
+
+// Prints a text, and returns the status.
+fn print_answer<O: Write, E: Write>(text: &str, out: &mut O, err: &mut E) -> u8
+    ensures text { PrintsAsked result text.now (O.contents out.old) (O.contents out.new) }
+    ensures reports { Reports result E.contents err.old err.new }
+{
+    let printed = print(text.as_bytes(), out);
+    status_of(after_flush(fine(printed), out.flush()), err)
 }
 
 // Prints a text that words ask for, and returns the status.

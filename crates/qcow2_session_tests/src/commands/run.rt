@@ -42,7 +42,7 @@ pub(crate) type Failures = (Failure, Failure);
 pub(crate) const NO_FAILURES: Failures = (Failure::Never, Failure::Never);
 
 // The status of a run of a line over outputs that fail there, and these outputs then.
-fn run_line(
+pub(crate) fn run_line(
     files: &FaultyFiles<'_, HostRuntime>,
     image: &str,
     line: &str,
@@ -108,6 +108,9 @@ const NO_COMMANDS: &[&str] = rows! {
     "apply IMAGE discard:0x0x0", "apply IMAGE discard:600h", "apply IMAGE discard:18446744073709551616",
     "count IMAGE", "count IMAGE 3 inc:", "count IMAGE 3 add:0", "count IMAGE 3 inc:+1",
     "count IMAGE 3 inc:0:1", "count IMAGE 3 inc:0 discard:0",
+    // a fault that there is none of, and words too many
+    "explain 0 IMAGE", "explain 41 IMAGE", "explain x IMAGE", "explain +3 IMAGE", "explain IMAGE",
+    "explain IMAGE 3", "explain 3 IMAGE IMAGE", "Explain 3 IMAGE",
 };
 
 pub(super) const NO_COMMAND: Ended<'static> = Ended::NoCommand(

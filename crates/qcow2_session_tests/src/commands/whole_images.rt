@@ -258,7 +258,7 @@ pub(crate) fn check_run(rt: &HostRuntime, name: &str, run: &Run<'_>) -> Result<(
 }
 
 // The sample image, whose clusters have 512 bytes, with these changes, in a file.
-fn sample_file<'a>(
+pub(crate) fn sample_file<'a>(
     rt: &'a HostRuntime,
     name: &str,
     changes: Numbers<'_>,

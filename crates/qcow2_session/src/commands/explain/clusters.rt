@@ -1,0 +1,79 @@
+//! The first cluster whose counter or whose uses refuse what a command does.
+
+ghost use Rattle.std.specs.Prelude.{◌≡◌};
+ghost use Rattle.qcow2_base.specs.Storage.{OnImage};
+ghost use Rattle.qcow2_check.specs.Findings.{IsFindingsOf};
+
+use super::places::Place;
+use super::refusals::Refusal;
+use crate::{load_l1_table, named_cluster};
+use qcow2_base::{Fault, Storage};
+use qcow2_check::{Counters, Finding, Findings};
+use qcow2_metadata::{Header, L1Table, Table, TableEntry};
+use std::alloc::Global;
+
+/// The refusal by the first cluster whose uses exclude each other (38), or else by the first whose counter is
+/// less than its uses (30). The fault of `Findings::new` comes first. Changes no byte.
+pub(super) fn cluster_refusal<S: Storage>(
+    alloc: Global,
+    image: &mut S,
+    header: &Header,
+    fault: Fault,
+) -> Result<Option<Refusal>, Fault>
+    ensures unchanged { (S.state image.new).byte_at ≡ (S.state image.old).byte_at }
+{
+    let mut findings = Findings::new(alloc, image, header)?;
+    while let Some(finding) = findings.next(image)? {
+        if is_about(fault, &finding) {
+            let place = Place::Cluster {
+                cluster: finding.cluster.0,
+                counter: finding.counter,
+                uses: finding.uses,
+            };
+            return Ok(Some(Refusal::at(alloc, fault, place)?));
+        }
+    }
+    Ok(None)
+}
+
+// Whether a finding is why a command is refused by a fault.
+fn is_about(fault: Fault, finding: &Finding) -> bool {
+    match fault {
+        Fault::Overlap => finding.shared,
+        _ => finding.counter < finding.uses,
+    }
+}
+
+/// The refusal by the first L1 entry whose L2 table may have another reference (40): it isn't copied, or the
+/// counter of its table's cluster isn't 1. The faults of the tables come first. Changes no byte.
+pub(super) fn shared_table_refusal<S: Storage>(
+    alloc: Global,
+    image: &mut S,
+    header: &Header,
+) -> Result<Option<Refusal>, Fault>
+    ensures unchanged { (S.state image.new).byte_at ≡ (S.state image.old).byte_at }
+{
+    let l1_table = load_l1_table(alloc, image, header)?;
+    let mut counters = Counters::new(alloc, image, header)?;
+    for l1_index in 0..l1_table.entries() {
+        if let Some(cluster) = named_cluster(&l1_table, l1_index) {
+            let counter = counters.get(image, cluster)?;
+            if counter != 1 || !l1_table.get(l1_index).is_copied() {
+                let place = shared_place(header, &l1_table, l1_index, counter);
+                return Ok(Some(Refusal::at(alloc, Fault::Shared(0), place)?));
+            }
+        }
+    }
+    Ok(None)
+}
+
+// The L1 entry at an index, whose L2 table has this counter.
+fn shared_place(header: &Header, l1_table: &L1Table, l1_index: usize, counter: u64) -> Place {
+    let begin = header.l1_table_offset().0;
+    Place::SharedTable {
+        index: l1_index,
+        offset: begin.saturating_add((l1_index as u64).saturating_mul(8)),
+        number: l1_table.get(l1_index).to_plain(),
+        counter,
+    }
+}

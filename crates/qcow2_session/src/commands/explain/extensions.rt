@@ -1,0 +1,155 @@
+//! The header extensions that faults are about.
+
+ghost use Rattle.std.specs.Prelude.{◌≡◌};
+
+use super::fields::read_number;
+use super::places::Place;
+use qcow2_base::{Fault, Storage};
+use qcow2_metadata::HeaderExtensionType;
+use std::alloc::Global;
+use std::fmt;
+
+// The types of extensions whose clusters aren't counted: bitmaps and an encryption header.
+const UNCOUNTED: [u64; 2] = [0x23852875, 0x0537be77];
+
+// How many bytes a cluster has at most.
+const LARGEST_CLUSTER: u64 = 1 << 21;
+
+// How many bytes of a feature name table say the name of one feature.
+const FEATURE_NAME_BYTES: u64 = 48;
+
+/// A header extension: where it stands, its type, and how many bytes its data has.
+#[derive(Clone, Copy)]
+pub(super) struct Extension {
+    offset: u64,
+    extension_type: u64,
+    length: u64,
+}
+
+impl Extension {
+    // Whether it is of a type.
+    fn is(&self, extension_type: HeaderExtensionType) -> bool {
+        self.extension_type == extension_type as u64
+    }
+
+    // Where its data begins.
+    fn data(&self) -> u64 {
+        self.offset.saturating_add(8)
+    }
+
+    // Where its data ends.
+    fn end(&self) -> u64 {
+        self.data().saturating_add(self.length)
+    }
+
+    // Where the next one stands.
+    fn next(&self) -> u64 {
+        self.data()
+            .saturating_add(self.length.div_ceil(8).saturating_mul(8))
+    }
+}
+
+impl fmt::Display for Extension {
+    fn fmt<W: fmt::Write>(&self, f: &mut fmt::Formatter<W>) -> fmt::Result {
+        let Extension {
+            offset,
+            extension_type,
+            length,
+        } = *self;
+        write!(
+            f,
+            "byte {offset}: extension {extension_type:#x} of {length} bytes"
+        )
+    }
+}
+
+/// The extensions of an image's header that a fault is about: those of two texts that differ, or else the
+/// first that can't be read. Version 2 has none. Changes no byte.
+pub(super) fn extensions_of<S: Storage>(
+    alloc: Global,
+    image: &mut S,
+    fault: u64,
+) -> Result<Vec<Place>, Fault>
+    ensures unchanged { (S.state image.new).byte_at ≡ (S.state image.old).byte_at }
+{
+    let cluster_bits = read_number(image, 20, 4)?;
+    let header_length = read_number(image, 100, 4)?;
+    if read_number(image, 4, 4)? < 3 || cluster_bits > 21 {
+        return Ok(Vec::new(alloc));
+    }
+    read_chain(alloc, image, fault, header_length, 1 << cluster_bits)
+}
+
+// Those of a chain of extensions that begins at an offset, and ends by another one.
+fn read_chain<S: Storage>(
+    alloc: Global,
+    image: &mut S,
+    fault: u64,
+    first: u64,
+    end: u64,
+) -> Result<Vec<Place>, Fault>
+    ensures unchanged { (S.state image.new).byte_at ≡ (S.state image.old).byte_at }
+{
+    let mut places = Vec::new(alloc);
+    let mut offset = first;
+    for _ in 0..end / 8 {
+        let extension = read_extension(image, offset)?;
+        if is_about(alloc, image, fault, &extension, end)? {
+            places.push(Place::Extension(extension))?;
+        }
+        if extension.is(HeaderExtensionType::End) || extension.end() > end {
+            return Ok(places);
+        }
+        offset = extension.next();
+    }
+    Ok(places)
+}
+
+fn read_extension<S: Storage>(image: &mut S, offset: u64) -> Result<Extension, Fault>
+    ensures unchanged { (S.state image.new).byte_at ≡ (S.state image.old).byte_at }
+{
+    let extension_type = read_number(image, offset, 4)?;
+    let length = read_number(image, offset.saturating_add(4), 4)?;
+    Ok(Extension {
+        offset,
+        extension_type,
+        length,
+    })
+}
+
+// Whether a fault is about an extension of a chain that ends by an offset.
+fn is_about<S: Storage>(
+    alloc: Global,
+    image: &mut S,
+    fault: u64,
+    extension: &Extension,
+    end: u64,
+) -> Result<bool, Fault>
+    ensures unchanged { (S.state image.new).byte_at ≡ (S.state image.old).byte_at }
+{
+    let is_format = extension.is(HeaderExtensionType::BackingFileFormat);
+    let is_data_file = extension.is(HeaderExtensionType::ExternalDataFileName);
+    let is_names = extension.is(HeaderExtensionType::FeatureNameTable);
+    match fault {
+        12 => Ok(extension.end() > end),
+        13 if is_format || is_data_file => Ok(!is_text(alloc, image, extension)?),
+        14 => Ok(is_names && extension.length % FEATURE_NAME_BYTES == 1),
+        15 => Ok(is_format),
+        16 => Ok(is_data_file),
+        37 => Ok(UNCOUNTED.contains(&extension.extension_type)),
+        _ => Ok(false),
+    }
+}
+
+// Whether the data of an extension is text. What is longer than the largest cluster is none.
+fn is_text<S: Storage>(alloc: Global, image: &mut S, extension: &Extension) -> Result<bool, Fault>
+    ensures unchanged { (S.state image.new).byte_at ≡ (S.state image.old).byte_at }
+{
+    let (begin, len) = (extension.data(), extension.length);
+    if begin > LARGEST_CLUSTER || len > LARGEST_CLUSTER {
+        return Ok(false);
+    }
+    let mut data = vec![in alloc; 0; len as usize]?;
+    image.read(&mut data, begin)?;
+    Ok(std::str::from_utf8(&data).is_ok())
+}

@@ -1,0 +1,145 @@
+//! The fields of the header that faults are about.
+
+ghost use Rattle.std.specs.Prelude.{◌≡◌};
+
+use super::places::Place;
+use qcow2_base::{Fault, MAX_FILE_LENGTH, Storage};
+use std::alloc::Global;
+use std::fmt;
+
+/// What fields are looked at for.
+#[derive(Clone, Copy, PartialEq, Eq)]
+pub(super) enum Topic {
+    /// The fault of this number.
+    Fault(u64),
+    /// The place and the length of the L1 table.
+    L1Table,
+    /// The place and the length of the refcount table.
+    RefTable,
+}
+
+/// How a field's value is written.
+#[derive(Clone, Copy)]
+enum Form {
+    /// A count or a size, in decimal.
+    Count,
+    /// An offset, or bits with meanings, in hexadecimal.
+    Bits,
+}
+
+/// A field of the header: its name, where its bytes begin, how many they are, and how its value is written.
+#[derive(Clone, Copy)]
+pub(super) struct Field(&'static str, u64, u32, Form);
+
+impl Field {
+    /// Writes where the field is, and a value of it.
+    pub(super) fn write_value<W: fmt::Write>(
+        &self,
+        value: u64,
+        f: &mut fmt::Formatter<W>,
+    ) -> fmt::Result {
+        let Field(name, offset, _, form) = *self;
+        match form {
+            Form::Count => write!(f, "byte {offset}: {name} is {value}"),
+            Form::Bits => write!(f, "byte {offset}: {name} is {value:#x}"),
+        }
+    }
+}
+
+const MAGIC: Field = Field("magic", 0, 4, Form::Bits);
+
+const VERSION: Field = Field("version", 4, 4, Form::Count);
+
+const BACKING_OFFSET: Field = Field("backing_file_offset", 8, 8, Form::Bits);
+
+const BACKING_SIZE: Field = Field("backing_file_size", 16, 4, Form::Count);
+
+const CLUSTER_BITS: Field = Field("cluster_bits", 20, 4, Form::Count);
+
+const L1_SIZE: Field = Field("l1_size", 36, 4, Form::Count);
+
+const L1_OFFSET: Field = Field("l1_table_offset", 40, 8, Form::Bits);
+
+const REFTABLE_OFFSET: Field = Field("refcount_table_offset", 48, 8, Form::Bits);
+
+const REFTABLE_CLUSTERS: Field = Field("refcount_table_clusters", 56, 4, Form::Count);
+
+const SNAPSHOTS: Field = Field("nb_snapshots", 60, 4, Form::Count);
+
+const INCOMPATIBLE: Field = Field("incompatible_features", 72, 8, Form::Bits);
+
+const AUTOCLEAR: Field = Field("autoclear_features", 88, 8, Form::Bits);
+
+const REFCOUNT_ORDER: Field = Field("refcount_order", 96, 4, Form::Count);
+
+const HEADER_LENGTH: Field = Field("header_length", 100, 4, Form::Count);
+
+// Which fields each topic is about.
+const FIELDS: &[(Topic, Field)] = &[
+    (Topic::Fault(1), MAGIC),
+    (Topic::Fault(2), VERSION),
+    (Topic::Fault(3), CLUSTER_BITS),
+    (Topic::Fault(4), HEADER_LENGTH),
+    (Topic::Fault(5), HEADER_LENGTH),
+    (Topic::Fault(5), CLUSTER_BITS),
+    (Topic::Fault(6), L1_OFFSET),
+    (Topic::Fault(6), CLUSTER_BITS),
+    (Topic::Fault(7), REFTABLE_OFFSET),
+    (Topic::Fault(7), CLUSTER_BITS),
+    (Topic::Fault(8), REFCOUNT_ORDER),
+    (Topic::Fault(9), BACKING_SIZE),
+    (Topic::Fault(10), BACKING_OFFSET),
+    (Topic::Fault(10), BACKING_SIZE),
+    (Topic::Fault(10), CLUSTER_BITS),
+    (Topic::Fault(11), BACKING_OFFSET),
+    (Topic::Fault(11), BACKING_SIZE),
+    (Topic::Fault(17), INCOMPATIBLE),
+    (Topic::Fault(24), AUTOCLEAR),
+    (Topic::Fault(24), BACKING_SIZE),
+    (Topic::Fault(27), VERSION),
+    (Topic::Fault(36), INCOMPATIBLE),
+    (Topic::Fault(37), SNAPSHOTS),
+    (Topic::L1Table, L1_SIZE),
+    (Topic::L1Table, L1_OFFSET),
+    (Topic::RefTable, REFTABLE_CLUSTERS),
+    (Topic::RefTable, REFTABLE_OFFSET),
+];
+
+/// The fields that a topic is about, with their values in the image. Changes no byte.
+pub(super) fn fields_of<S: Storage>(
+    alloc: Global,
+    image: &mut S,
+    topic: Topic,
+) -> Result<Vec<Place>, Fault>
+    ensures unchanged { (S.state image.new).byte_at ≡ (S.state image.old).byte_at }
+{
+    let mut places = Vec::new(alloc);
+    for row in FIELDS {
+        let (about, field) = *row;
+        if about == topic {
+            places.push(read_field(image, field)?)?;
+        }
+    }
+    Ok(places)
+}
+
+// A field with its value.
+fn read_field<S: Storage>(image: &mut S, field: Field) -> Result<Place, Fault>
+    ensures unchanged { (S.state image.new).byte_at ≡ (S.state image.old).byte_at }
+{
+    let Field(_, offset, bytes, _) = field;
+    Ok(Place::Field(field, read_number(image, offset, bytes)?))
+}
+
+/// The number of 4 or 8 bytes of an image, from an offset on. Past the end of all images it is 0. Changes no
+/// byte.
+pub(super) fn read_number<S: Storage>(image: &mut S, offset: u64, bytes: u32) -> Result<u64, Fault>
+    ensures unchanged { (S.state image.new).byte_at ≡ (S.state image.old).byte_at }
+{
+    let mut buffer = [0u8; 8];
+    if offset <= MAX_FILE_LENGTH - 8 {
+        image.read(&mut buffer, offset)?;
+    }
+    let number = u64::from_be_bytes(buffer);
+    Ok(if bytes == 4 { number >> 32 } else { number })
+}

@@ -1,0 +1,83 @@
+//! Places in an image, and what a line says of each.
+
+use super::extensions::Extension;
+use super::fields::Field;
+use std::fmt;
+
+/// A place in an image, and what is there.
+#[derive(Clone, Copy)]
+pub(super) enum Place {
+    /// A field of the header, with its value.
+    Field(Field, u64),
+    /// A header extension.
+    Extension(Extension),
+    /// An entry of a table of this kind.
+    Entry {
+        kind: &'static str,
+        index: usize,
+        offset: u64,
+        number: u64,
+    },
+    /// An entry of an L2 table.
+    GuestEntry {
+        guest_offset: u64,
+        offset: u64,
+        number: u64,
+    },
+    /// An entry of the L1 table, whose L2 table has this counter.
+    SharedTable {
+        index: usize,
+        offset: u64,
+        number: u64,
+        counter: u64,
+    },
+    /// A host cluster, with its counter and how many uses it has.
+    Cluster {
+        cluster: u64,
+        counter: u64,
+        uses: u64,
+    },
+}
+
+impl fmt::Display for Place {
+    fn fmt<W: fmt::Write>(&self, f: &mut fmt::Formatter<W>) -> fmt::Result {
+        match *self {
+            Place::Field(field, value) => field.write_value(value, f),
+            Place::Extension(extension) => write!(f, "{extension}"),
+            Place::Entry {
+                kind,
+                index,
+                offset,
+                number,
+            } => write!(
+                f,
+                "{kind} entry {index}, bytes at {offset:#x}: {number:016x}"
+            ),
+            Place::GuestEntry {
+                guest_offset,
+                offset,
+                number,
+            } => write!(
+                f,
+                "guest offset {guest_offset:#x}, L2 entry at {offset:#x}: {number:016x}"
+            ),
+            Place::SharedTable {
+                index,
+                offset,
+                number,
+                counter,
+            } => write!(
+                f,
+                "L1 entry {index}, bytes at {offset:#x}: {number:016x}, and its table's counter is {counter}"
+            ),
+            Place::Cluster {
+                cluster,
+                counter,
+                uses,
+            } => write!(
+                f,
+                "cluster {cluster}: its counter is {counter}, and it has {uses} uses"
+            ),
+        }
+    }
+}

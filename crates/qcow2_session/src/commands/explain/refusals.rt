@@ -1,0 +1,151 @@
+//! Why an image is refused, and where in it that is.
+
+ghost use Rattle.std.specs.Prelude.{◌≡◌};
+
+use super::clusters::{cluster_refusal, shared_table_refusal};
+use super::extensions::extensions_of;
+use super::fields::{Topic, fields_of};
+use super::places::Place;
+use super::tables::table_refusal;
+use qcow2_base::{Fault, MemStorage, Storage, UncountedPart};
+use qcow2_metadata::Header;
+use std::alloc::{AllocError, Global};
+
+/// A fault of an image, by its number, and where in the image it is.
+#[derive(Drop)]
+pub(super) struct Refusal {
+    pub(super) fault: u64,
+    pub(super) places: Vec<Place>,
+}
+
+impl Refusal {
+    /// The refusal by a fault, at these places.
+    pub(super) fn new(fault: Fault, places: Vec<Place>) -> Refusal {
+        Refusal {
+            fault: u64::from(fault.number()),
+            places,
+        }
+    }
+
+    /// The refusal by a fault, at one place.
+    pub(super) fn at(alloc: Global, fault: Fault, place: Place) -> Result<Refusal, AllocError> {
+        let mut places = Vec::new(alloc);
+        places.push(place)?;
+        Ok(Refusal::new(fault, places))
+    }
+}
+
+/// Whether a refusal is one by the fault of a number.
+pub(super) fn is_of(refusal: &Option<Refusal>, number: u64) -> bool {
+    match refusal {
+        Some(refusal) => refusal.fault == number,
+        None => false,
+    }
+}
+
+/// Why an image is refused: by the fault of this number, where it is, or else by one that comes before. Fails
+/// only where memory runs out or the storage fails. Changes no byte.
+pub(super) fn refusal_of<S: Storage>(
+    alloc: Global,
+    image: &mut S,
+    number: u64,
+) -> Result<Option<Refusal>, Fault>
+    ensures unchanged { (S.state image.new).byte_at ≡ (S.state image.old).byte_at }
+{
+    let header = match Header::load(alloc, image, false) {
+        Ok(header) => header,
+        Err(fault) => return Ok(Some(header_refusal(alloc, image, fault)?)),
+    };
+    let found = match number {
+        30 => cluster_refusal(alloc, image, &header, Fault::CounterRange),
+        38 => cluster_refusal(alloc, image, &header, Fault::Overlap),
+        40 => shared_table_refusal(alloc, image, &header),
+        _ => return plain_refusal(alloc, image, &header, number),
+    };
+    match found {
+        Err(Fault::NoMemory) => Err(Fault::NoMemory),
+        Err(Fault::Storage) => Err(Fault::Storage),
+        Err(fault) => plain_refusal(alloc, image, &header, u64::from(fault.number())),
+        Ok(refusal) => Ok(refusal),
+    }
+}
+
+// The same of a fault for which no cluster's uses are counted.
+fn plain_refusal<S: Storage>(
+    alloc: Global,
+    image: &mut S,
+    header: &Header,
+    number: u64,
+) -> Result<Option<Refusal>, Fault>
+    ensures unchanged { (S.state image.new).byte_at ≡ (S.state image.old).byte_at }
+{
+    match number {
+        18..=21 => table_refusal(alloc, image, header, number),
+        24 => room_refusal(alloc, image, header),
+        27 if header.version() == 2 => by_fields(alloc, image, Fault::VersionNeeded),
+        36 if header.external_data_file() => by_fields(alloc, image, Fault::ExternalData),
+        37 => match header.uncounted_part() {
+            Some(part) => by_part(alloc, image, part),
+            None => Ok(None),
+        },
+        _ => Ok(None),
+    }
+}
+
+// The refusal of a header that has no room once it is written anew, as a copy of the first cluster shows.
+fn room_refusal<S: Storage>(
+    alloc: Global,
+    image: &mut S,
+    header: &Header,
+) -> Result<Option<Refusal>, Fault>
+    ensures unchanged { (S.state image.new).byte_at ≡ (S.state image.old).byte_at }
+{
+    let mut bytes = vec![in alloc; 0; header.cluster_size()]?;
+    image.read(&mut bytes, 0)?;
+    let mut copy = MemStorage::new(bytes);
+    match Header::load(alloc, &mut copy, true) {
+        Ok(_) => Ok(None),
+        Err(Fault::HeaderTooLong) => by_fields(alloc, image, Fault::HeaderTooLong),
+        Err(fault) => Err(fault),
+    }
+}
+
+// Why a header is refused by a fault, unless memory ran out or the storage failed.
+fn header_refusal<S: Storage>(alloc: Global, image: &mut S, fault: Fault) -> Result<Refusal, Fault>
+    ensures unchanged { (S.state image.new).byte_at ≡ (S.state image.old).byte_at }
+{
+    let number = u64::from(fault.number());
+    let places = match number {
+        1..=11 | 17 => fields_of(alloc, image, Topic::Fault(number))?,
+        12..=16 => extensions_of(alloc, image, number)?,
+        _ => return Err(fault),
+    };
+    Ok(Refusal::new(fault, places))
+}
+
+// The refusal by a fault of fields of a header.
+fn by_fields<S: Storage>(
+    alloc: Global,
+    image: &mut S,
+    fault: Fault,
+) -> Result<Option<Refusal>, Fault>
+    ensures unchanged { (S.state image.new).byte_at ≡ (S.state image.old).byte_at }
+{
+    let places = fields_of(alloc, image, Topic::Fault(u64::from(fault.number())))?;
+    Ok(Some(Refusal::new(fault, places)))
+}
+
+// The refusal of an image with a part whose clusters aren't counted.
+fn by_part<S: Storage>(
+    alloc: Global,
+    image: &mut S,
+    part: UncountedPart,
+) -> Result<Option<Refusal>, Fault>
+    ensures unchanged { (S.state image.new).byte_at ≡ (S.state image.old).byte_at }
+{
+    if part == UncountedPart::Snapshots {
+        return by_fields(alloc, image, Fault::Uncounted(part));
+    }
+    let places = extensions_of(alloc, image, 37)?;
+    Ok(Some(Refusal::new(Fault::Uncounted(part), places)))
+}
