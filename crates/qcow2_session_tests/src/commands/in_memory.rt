@@ -65,9 +65,10 @@ const ROWS: &[Row] = rows! {
     // a table of 64 entries maps 32 KiB, and a block of 256 counters counts from cluster 0 on
     Row { line: "tables IMAGE", before: counted!((88, 1)), printed: TABLES, after: counted!((88, 1)), ..ROW },
     // the header names no refcount table
-    Row { line: "tables IMAGE", printed: "header 0 1\nl1 1 1\nl2 0 2 0x0 0x8000 0\nrefcount-table 0 0\n", ..ROW },
-    Row { line: "tables IMAGE", before: &[(512, 1)], answer: Some(Err(Fault::EntryReserved)), after: &[(512, 1)],
+    Row { line: "tables IMAGE", printed: "header 0 1\nl1 1 1\nl2 0 2 0x0 0x8000 0\nrefcount-table 0 0\n",
         ..ROW },
+    Row { line: "tables IMAGE", before: &[(512, 1)], answer: Some(Err(Fault::EntryReserved)),
+        after: &[(512, 1)], ..ROW },
     Row { line: "tables IMAGE", before: counted!((0x608, 1 << 56)), answer: Some(Err(Fault::TablePlace)),
         after: counted!((0x608, 1 << 56)), ..ROW },
     Row { line: "tables IMAGE 0", answer: None, ..ROW },
