@@ -43,16 +43,16 @@ moved-twice a b (Data offset) = grind arith
 
 -- what a cluster is by its uses, or by its counter where it has none
 at-use : (tables : ImageTables) (image : Image) (c : ℕ) (part : Part) → part_in (image_parts tables image) c ≡ Some part → part_at tables image c ≡ part
-at-use tables image c part is = rw is refl
+at-use tables image c part is = rw (is, part_at) refl
 
 at-none : (tables : ImageTables) (image : Image) (c : ℕ) → part_in (image_parts tables image) c ≡ None
     → part_at tables image c ≡ unused_part (counter_of tables.header tables.reftable image c)
-at-none tables image c is = rw is refl
+at-none tables image c is = rw (is, part_at) refl
 
 -- a cell of 0 has no use
 no-use : (found : Option Part) (cell : ℕ) → cell ≡ cell_of found → cell ≡ 0 → found ≡ None
-no-use None cell is zero = refl
-no-use (Some part) cell is zero = absurd (omega (arith, is, zero, code-some part))
+no-use None cell is none = refl
+no-use (Some part) cell is none = absurd (omega (arith, is, none, code-some part))
 
 -- one cluster is a piece
 one-piece : (cb : ℕ) (parts : Parts) (from : ℕ) (part : Part) → parts from ≡ part → IsPiece cb parts from (part, from + 1)
@@ -88,7 +88,7 @@ counted-piece reader window image from counter part has reads first end is count
 free-at : (tables : ImageTables) (image : Image) (c : ℕ) → part_in (image_parts tables image) c ≡ None → block_of_cluster tables.header tables.reftable c ≡ None
     → part_at tables image c ≡ Free
 free-at tables image c none unblocked =
-    let counter : counter_of tables.header tables.reftable image c ≡ 0 = rw unblocked refl in
+    let counter : counter_of tables.header tables.reftable image c ≡ 0 = rw (unblocked, counter_of) refl in
     at-none tables image c none ∙ ap unused_part counter
 
 pub free-piece : (reader : LayoutState) (window : TallyState) (image : Image) (from to : ℕ) → reader.window ≡ Some window → IsLayoutOf image reader
@@ -267,3 +267,35 @@ same-parts x Fact old now first later reads moves fact = λ told.
 -- reads one after another that returned values
 pub reads-twice : {A B C : Type 0} (x : A) (y : B) (z : C) (a b c : StorageState) → OnlyReads (Ok x) a b → OnlyReads (Ok y) b c → OnlyReads (Ok z) a c
 reads-twice x y z a b c one other = grind (arith, nat_tests, one, other)
+
+-- runs are determined by where they begin
+no-shorter : (cb : ℕ) (parts : Parts) (end from : ℕ) (one other : Run) → IsRun cb parts end from one → IsRun cb parts end from other → one.count < other.count → ⊥
+no-shorter cb parts end from one other is also less =
+    let first : parts from ≡ one.part = piece-first cb parts from (from + one.count) one.part (omega (arith, is.some), subst (λ n. AreOne cb parts from n one.part) (omega arith) is.one) in
+    let second : parts from ≡ other.part = piece-first cb parts from (from + other.count) other.part (omega (arith, also.some), subst (λ n. AreOne cb parts from n other.part) (omega arith) also.one) in
+    let here : parts (from + one.count) ≡ moved_on (one.count * 2 ^ cb) other.part = also.one one.count less in
+    is.ends (omega (arith, also.within, less)) (here ∙ ap (λ p. moved_on (one.count * 2 ^ cb) p) (sym second ∙ first))
+
+run-once : (cb : ℕ) (parts : Parts) (end from : ℕ) (one other : Run) → IsRun cb parts end from one → IsRun cb parts end from other → one ≡ other
+run-once cb parts end from one other is also =
+    let first : parts from ≡ one.part = piece-first cb parts from (from + one.count) one.part (omega (arith, is.some), subst (λ n. AreOne cb parts from n one.part) (omega arith) is.one) in
+    let second : parts from ≡ other.part = piece-first cb parts from (from + other.count) other.part (omega (arith, also.some), subst (λ n. AreOne cb parts from n other.part) (omega arith) also.one) in
+    let part : one.part ≡ other.part = sym first ∙ second in
+    let count : one.count ≡ other.count = elim (cases_lt one.count other.count) [
+      | inl less ↦ absurd (no-shorter cb parts end from one other is also less)
+      | inr more ↦ elim (cases_lt other.count one.count) [
+        | inl less ↦ absurd (no-shorter cb parts end from other one also is less)
+        | inr same ↦ omega (arith, more, same)
+      ]
+    ] in
+    grind (arith, part, count, is.first, also.first)
+
+-- an image has one list of runs
+pub runs-once : (cb : ℕ) (parts : Parts) (end from : ℕ) (xs ys : List Run) → AreRuns cb parts end from xs → AreRuns cb parts end from ys → xs ≡ ys
+runs-once cb parts end from [] [] one other = refl
+runs-once cb parts end from [] (y ∷ ys) one other = absurd (omega (arith, one, other.0.some, other.0.within))
+runs-once cb parts end from (x ∷ xs) [] one other = absurd (omega (arith, other, one.0.some, one.0.within))
+runs-once cb parts end from (x ∷ xs) (y ∷ ys) one other =
+    let same : x ≡ y = run-once cb parts end from x y one.0 other.0 in
+    let rest : AreRuns cb parts end (from + x.count) ys = subst (λ (r : Run). AreRuns cb parts end (from + r.count) ys) (sym same) other.1 in
+    ap (λ r. r ∷ xs) same ∙ ap (λ rs. y ∷ rs) (runs-once cb parts end (from + x.count) xs ys one.1 rest)

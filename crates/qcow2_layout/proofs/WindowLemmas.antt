@@ -28,7 +28,7 @@ pub places_next : (part : Part) (first : HostCluster) (count at : ℕ) (a b c : 
 places_next part first count at a b c from is one other = grind (arith, nat_tests, one, other)
 
 -- no part has the number 0
-code-some : (part : Part) → 0 < code_of part
+pub code-some : (part : Part) → 0 < code_of part
 code-some Header = omega arith
 code-some L1Table = omega arith
 code-some RefcountTable = omega arith
@@ -49,11 +49,12 @@ used-stays (used ∷ uses) c cell some =
 -- and one that has none is that of the first use that has its cluster
 first-use : (uses : List PlacedUse) (c : ℕ) → fold (cell_after c) 0 uses ≡ cell_of (part_in uses c)
 first-use [] c = refl
-first-use (used ∷ uses) c = by_use (is_among used.clusters c) refl
+first-use (used ∷ uses) c = by_use (is_among used.clusters c) refl (first-use uses c)
   where
-    by_use : (has : Bool) → is_among used.clusters c ≡ has → fold (cell_after c) 0 (used ∷ uses) ≡ cell_of (part_in (used ∷ uses) c)
-    by_use true is = rw is (used-stays uses c (code_of used.part) (code-some used.part))
-    by_use false is = rw is (first-use uses c)
+    by_use : (has : Bool) → is_among used.clusters c ≡ has → fold (cell_after c) 0 uses ≡ cell_of (part_in uses c)
+        → fold (cell_after c) 0 (used ∷ uses) ≡ cell_of (part_in (used ∷ uses) c)
+    by_use true is rest = rw is (used-stays uses c (code_of used.part) (code-some used.part))
+    by_use false is rest = rw is rest
 
 -- cells after all uses, and no others
 pub places_all : (tables : ImageTables) (image : Image) (old new : TallyState) → ((c : ℕ) → cell_at old c ≡ 0)

@@ -2,6 +2,7 @@
 //! clusters.
 #![tactic(auto)]
 
+pub mod laws;
 mod layout;
 mod parts;
 mod places;
