@@ -17,6 +17,7 @@ use Rattle.qcow2_check.specs.ImageEnd.{end_of, image_end, is_counted, is_in_use,
 use Rattle.qcow2_check.specs.NamedTables.{named_block, named_cluster}
 use Rattle.qcow2_check.specs.Tally.{ClusterUse}
 use Rattle.qcow2_check.specs.Uses.{ImageTables, block_uses, entry_uses, header_uses, image_uses, l1_entry_uses, uses_of}
+use Rattle.qcow2_layout.proofs.LayoutLemmas.{at-none, at-use}
 use Rattle.qcow2_layout.specs.Parts.{PlacedUse, block_parts, entry_parts, header_parts, image_parts, is_free, l1_entry_parts, layout_end, part_at, part_in, table_parts, unused_part, uses_from}
 use Rattle.qcow2_layout.specs.declared.parts.Part.{Part}
 use Rattle.qcow2_layout.specs.declared.parts.Part.TheVariants.{Compressed, Data, Free, Header, L1Table, L2Table, Leaked, RefcountBlock, RefcountTable}
@@ -253,15 +254,15 @@ taken-is tables image c = by_use (part_in (image_parts tables image) c) refl (is
         → not (is_free (part_at tables image c)) ≡ is_counted tables.header tables.reftable image c || is_some (part_in (image_parts tables image) c)
     by_use (Some part) is counted says =
         let taken : is_free part ≡ false = part-taken (image_parts tables image) c part (none-image tables image) is in
-        let here : part_at tables image c ≡ part = rw (is, part_at) refl in
+        let here : part_at tables image c ≡ part = at-use tables image c part is in
         let first : not (is_free (part_at tables image c)) ≡ true = ap (λ p. not (is_free p)) here ∙ ap not taken in
         rw (is, says) (first ∙ sym (or-true counted))
     by_use None is true says =
-        let here : part_at tables image c ≡ unused_part (counter_of tables.header tables.reftable image c) = rw (is, part_at) refl in
+        let here : part_at tables image c ≡ unused_part (counter_of tables.header tables.reftable image c) = at-none tables image c is in
         let leaked : unused_part (counter_of tables.header tables.reftable image c) ≡ Leaked = grind (arith, nat_tests, says) in
         rw (is, says) (ap (λ p. not (is_free p)) (here ∙ leaked))
     by_use None is false says =
-        let here : part_at tables image c ≡ unused_part (counter_of tables.header tables.reftable image c) = rw (is, part_at) refl in
+        let here : part_at tables image c ≡ unused_part (counter_of tables.header tables.reftable image c) = at-none tables image c is in
         let free : unused_part (counter_of tables.header tables.reftable image c) ≡ Free = grind (arith, nat_tests, says) in
         rw (is, says) (ap (λ p. not (is_free p)) (here ∙ free))
 

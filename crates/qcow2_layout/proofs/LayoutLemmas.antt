@@ -42,11 +42,13 @@ moved-twice a b Free = refl
 moved-twice a b (Data offset) = grind arith
 
 -- what a cluster is by its uses, or by its counter where it has none
-at-use : (tables : ImageTables) (image : Image) (c : ℕ) (part : Part) → part_in (image_parts tables image) c ≡ Some part → part_at tables image c ≡ part
+pub at-use : (tables : ImageTables) (image : Image) (c : ℕ) (part : Part) → part_in (image_parts tables image) c ≡ Some part → part_at tables image c ≡ part
+unfolding part_at
 at-use tables image c part is = rw (is, part_at) refl
 
-at-none : (tables : ImageTables) (image : Image) (c : ℕ) → part_in (image_parts tables image) c ≡ None
+pub at-none : (tables : ImageTables) (image : Image) (c : ℕ) → part_in (image_parts tables image) c ≡ None
     → part_at tables image c ≡ unused_part (counter_of tables.header tables.reftable image c)
+unfolding part_at
 at-none tables image c is = rw (is, part_at) refl
 
 -- a cell of 0 has no use
@@ -256,13 +258,13 @@ moves-twice x old now a b c reads one other = record {
   kept = λ told. rw reads.bytes at (other.kept (rw reads.device.tells told));
 }
 
--- what is read later is of the image and the tables that a reader had first
-pub same-parts : {A : Type 0} (x : A) (Fact : Parts → Type 0) (old now : StorageState) (first later : LayoutState) → OnlyReads (Ok x) old now → MovesLayout old first later
-    → OnImage now (λ bytes. Fact (parts_for later bytes)) → OnImage old (λ bytes. Fact (parts_for first bytes))
-same-parts x Fact old now first later reads moves fact = λ told.
+-- what is known later of the image and the tables that a reader reads was so first
+pub same-tables : {A : Type 0} (x : A) (Fact : ImageTables → Image → Type 0) (old now : StorageState) (first later : LayoutState) → OnlyReads (Ok x) old now
+    → MovesLayout old first later → OnImage now (λ bytes. Fact (tables_of later) bytes) → OnImage old (λ bytes. Fact (tables_of first) bytes)
+same-tables x Fact old now first later reads moves fact = λ told.
     let tables : tables_of later ≡ tables_of first = ap tables_of moves.same in
-    let known : Fact (parts_for later now.byte_at) = fact (rw reads.device.tells told) in
-    subst (λ t. Fact (part_at t old.byte_at)) tables (subst (λ image. Fact (part_at (tables_of later) image)) reads.bytes known)
+    let known : Fact (tables_of later) now.byte_at = fact (rw reads.device.tells told) in
+    subst (λ t. Fact t old.byte_at) tables (subst (λ image. Fact (tables_of later) image) reads.bytes known)
 
 -- reads one after another that returned values
 pub reads-twice : {A B C : Type 0} (x : A) (y : B) (z : C) (a b c : StorageState) → OnlyReads (Ok x) a b → OnlyReads (Ok y) b c → OnlyReads (Ok z) a c

@@ -82,7 +82,7 @@ unused_part counter = if counter == 0 then Free else Leaked
 
 -- what cluster c is of an image with these tables: the part of its first use, so that tables win over guest data, and the
 -- lowest guest offset over others; or leaked where its counter isn't 0, or else free
-abbrev pub part_at : ImageTables → Image → ℕ → Part
+unfoldable pub part_at : ImageTables → Image → ℕ → Part
 part_at tables image c = elim (part_in (image_parts tables image) c) [
   | Some part ↦ part
   | None ↦ unused_part (counter_of tables.header tables.reftable image c)

@@ -59,6 +59,7 @@ impl<'a> Layout<'a> {
     ghost use Rattle.qcow2_metadata.specs.Results.{result_map};
     ghost use Rattle.qcow2_check.specs.Findings.{IsCheckFault, IsLaterFault, checked_tables};
     ghost use Rattle.qcow2_check.specs.ImageEnd.{most_clusters};
+    ghost use Rattle.qcow2_layout.specs.declared.parts.Part.TheVariants.{Free};
     ghost use Rattle.qcow2_layout.specs.Layout.{IsLayoutOf, IsPiece, IsWholeRun, MovesLayout, PassesRun, parts_for, tables_of};
 
     /// A reader of the runs of an image with this header, before the first of them. Reads its tables, and
@@ -116,7 +117,7 @@ impl<'a> Layout<'a> {
             return Ok(None);
         }
         let part = self.pass_run(image)?;
-        if part == Part::Free && self.position == most_clusters(self.header) {
+        if self.is_past_end(part) {
             return Ok(None);
         }
         Ok(Some(Run {
@@ -124,6 +125,14 @@ impl<'a> Layout<'a> {
             count: self.position - start,
             part,
         }))
+    }
+
+    // Whether clusters of this part before the reader's are free ones at the end of all that can be there.
+    fn is_past_end(&self, part: Part) -> bool
+        ensures { IsTrue result ↔ (part ≡ Free)
+            × (self.now.position ≡ most_clusters self.now.header) }
+    {
+        part == Part::Free && self.position == most_clusters(self.header)
     }
 
     // Goes past the clusters from the reader's on that are one, and returns what they are.

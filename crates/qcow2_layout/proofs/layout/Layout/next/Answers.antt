@@ -1,0 +1,49 @@
+use Rattle.std.proofs.Common.{◌≡◌, ◌-◌, ◌∙◌, ap, refl, sym, rules, arith}
+use Rattle.qcow2_check.specs.ImageEnd.{most_clusters}
+use Rattle.qcow2_layout.proofs.LayoutLemmas.{ends-by-limit, free-to-limit, run-of-image}
+use Rattle.qcow2_layout.specs.Layout.{LayoutState, tables_of}
+use Rattle.qcow2_layout.specs.declared.parts.Run.{Run}
+use Rattle.qcow2_layout.proofs.layout.Layout.next.Goals as goal
+
+pub returns-then-start-most_clusters-clause-run : goal.returns-then-start-most_clusters-clause-run
+returns-then-start-most_clusters-clause-run g c =
+    let reader = c.args.self.now in
+    let last : reader.position ≡ most_clusters reader.header = search rules in (
+      omega arith,
+      last,
+      λ told. omega (arith, last, ends-by-limit (tables_of reader) (g.S.Storage.state c.args.image.now).byte_at),
+    )
+
+pub returns-then-is_past_end-clause-run : goal.returns-then-is_past_end-clause-run
+returns-then-is_past_end-clause-run g c =
+    let reader = c.args.self.now in
+    let to = c.pass_run.new.self in
+    let free = c.is_past_end.ensures.0 c.if-is_past_end.true in
+    let limit : most_clusters to.header ≡ most_clusters reader.header =
+    ap (λ (later : LayoutState). most_clusters later.header) c.in_ok-part.ensures.reader.same in
+    let last : to.position ≡ most_clusters reader.header = free.1 ∙ limit in (
+      omega (arith, c.in_ok-part.ensures.further.0),
+      last,
+      λ told. free-to-limit (tables_of reader) (g.S.Storage.state c.args.image.now).byte_at reader.header.v2.cluster_bits reader.position to.position
+          c.in_ok-part.part (c.in_ok-part.ensures.run told).0 free.0 (omega (arith, last)),
+    )
+
+pub returns-clause-run : goal.returns-clause-run
+returns-clause-run g c =
+    let reader = c.args.self.now in
+    let to = c.pass_run.new.self in
+    let further = c.in_ok-part.ensures.further in
+    let start : c.self.inside.position ≡ reader.position = ap (λ (state : LayoutState). state.position) c.self.view_is in
+    let end : c.self-2.inside.position ≡ to.position = ap (λ (state : LayoutState). state.position) c.self-2.view_is in
+    let limit : most_clusters to.header ≡ most_clusters reader.header =
+    ap (λ (later : LayoutState). most_clusters later.header) c.in_ok-part.ensures.reader.same in
+    let run : Run = record { first = record { 0 = reader.position }; count = to.position - reader.position; part = c.in_ok-part.part } in
+    rw (start, end) (
+      refl,
+      omega (arith, further.0),
+      omega (arith, further.0),
+      further.1,
+      λ told. run-of-image (tables_of reader) (g.S.Storage.state c.args.image.now).byte_at reader.header.v2.cluster_bits reader.position to.position
+          c.in_ok-part.part run (c.in_ok-part.ensures.run told) further.1
+          (λ free last. let yes = c.is_past_end.ensures.1 (free, last ∙ sym limit) in cc) refl,
+    )
