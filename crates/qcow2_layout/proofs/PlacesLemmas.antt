@@ -1,5 +1,7 @@
-use Rattle.std.proofs.Common.{◌≡◌, ℕ, ◌+◌, ◌<◌, ◌≤◌, ◌^◌, List, [], ◌∷◌, ◌++◌, take, length, slice_index, add-zero, refl, sym, ◌∙◌, ap, Some, Result, Ok, Err, OnOk, arith}
+use Rattle.std.proofs.Common.{◌≡◌, ℕ, ◌+◌, ◌-◌, ◌*◌, ◌<◌, ◌≤◌, ◌^◌, List, [], ◌∷◌, ◌++◌, take, length, slice_index, add-zero, refl, sym, ◌∙◌, ap, Some, Result, Ok, Err, OnOk, arith}
 use Rattle.std.proofs.Math.Nat.{zero-add}
+use Rattle.std.proofs.Math.Pow.{pow_mono}
+use Rattle.std.proofs.lemmas.Nat.{mul-add-lt, mul-lt}
 use Rattle.std.proofs.lemmas.Bool.Decides.{nat_tests}
 use Rattle.std.proofs.lemmas.List.{append-nil, append_assoc, length-take-le}
 use Rattle.qcow2_base.specs.Storage.{Image, OnImage, OnlyReads, StorageState}
@@ -13,6 +15,17 @@ use Rattle.qcow2_check.proofs.UsesLemmas.{all_load_more, all_load_until, loaded,
 use Rattle.qcow2_layout.proofs.WindowLemmas.{places_then}
 use Rattle.qcow2_layout.specs.Parts.{PlacedUse, l1_entry_parts, uses_from}
 use Rattle.qcow2_layout.specs.Window.{PlacesMore}
+
+-- the number of guest data of each entry that an L1 table of the most entries leads to fits 64 bits
+pub data_fits : (cb index l2_index : ℕ) → cb ≤ 21 → index < 4194304 → l2_index < 2 ^ (cb - 3) → 9 + (index * 2 ^ (cb - 3) + l2_index) * 2 ^ cb < 2 ^ 64
+data_fits cb index l2_index low l1 l2 =
+    let few : cb - 3 ≤ 18 = omega (arith, low) in
+    let entries : 2 ^ (cb - 3) ≤ 2 ^ 18 = pow_mono few in
+    let size : 2 ^ cb ≤ 2 ^ 21 = pow_mono low in
+    let below = mul-add-lt index (2 ^ (cb - 3)) l2_index 4194304 l1 l2 in
+    let cluster : index * 2 ^ (cb - 3) + l2_index < 2 ^ 40 = omega (arith, below, entries) in
+    let all = mul-lt (index * 2 ^ (cb - 3) + l2_index) (2 ^ cb) (2 ^ 40) (2 ^ 21 + 1) cluster (omega (arith, size)) in
+    omega (arith, all)
 
 -- the uses by numbers and by one more
 uses_append : (uses : ℕ → ℕ → List PlacedUse) (place : ℕ) (vs : List ℕ) (v : ℕ)

@@ -94,7 +94,7 @@ fn place_tables(window: &mut Window, l1_table: &L1Table) -> Result<(), Fault>
 
 // What the clusters are that an entry refers to, by the place of the entry.
 #[inline(always)]
-#[tactic(auto, using(crate::proofs::PlacesLemmas::data_has_code, qcow2_check::proofs::FlagsLemmas::guest_offset_fits))]
+#[tactic(auto, using(crate::proofs::PlacesLemmas::data_fits, qcow2_check::proofs::FlagsLemmas::guest_offset_fits))]
 fn part_of_entry(table: &L2Table, l1_index: usize, index: usize) -> Part
     requires l1_index { l1_index < most_l1_entries }
     requires index { index < l2_entries table.now.geometry.cluster_bits }
@@ -138,6 +138,7 @@ fn place_entry(
 }
 
 // Places the clusters that the entries of the L2 table of an L1 entry refer to.
+#[tactic(auto, using(crate::proofs::PlacesLemmas::places_entry))]
 fn place_entries(window: &mut Window, table: &L2Table, l1_index: usize) -> Result<(), Fault>
     requires l1_index { l1_index < most_l1_entries }
     requires count { length table.now.numbers ≡ l2_entries table.now.geometry.cluster_bits }
