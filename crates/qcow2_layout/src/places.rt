@@ -138,7 +138,6 @@ fn place_entry(
 }
 
 // Places the clusters that the entries of the L2 table of an L1 entry refer to.
-#[tactic(auto, using(crate::proofs::PlacesLemmas::places_entry))]
 fn place_entries(window: &mut Window, table: &L2Table, l1_index: usize) -> Result<(), Fault>
     requires l1_index { l1_index < most_l1_entries }
     requires count { length table.now.numbers ≡ l2_entries table.now.geometry.cluster_bits }
