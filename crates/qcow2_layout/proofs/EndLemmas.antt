@@ -18,7 +18,7 @@ use Rattle.qcow2_check.specs.NamedTables.{named_block, named_cluster}
 use Rattle.qcow2_check.specs.Tally.{ClusterUse}
 use Rattle.qcow2_check.specs.Uses.{ImageTables, block_uses, entry_uses, header_uses, image_uses, l1_entry_uses, uses_of}
 use Rattle.qcow2_layout.proofs.LayoutLemmas.{at-none, at-use}
-use Rattle.qcow2_layout.specs.Parts.{PlacedUse, block_parts, entry_parts, header_parts, image_parts, is_free, l1_entry_parts, layout_end, part_at, part_in, table_parts, unused_part, uses_from}
+use Rattle.qcow2_layout.specs.Parts.{PlacedUse, block_parts, entry_parts, header_parts, image_parts, is_free, l1_entry_parts, taken_end, part_at, part_in, table_parts, unused_part, uses_from}
 use Rattle.qcow2_layout.specs.declared.parts.Part.{Part}
 use Rattle.qcow2_layout.specs.declared.parts.Part.TheVariants.{Compressed, Data, Free, Header, L1Table, L2Table, Leaked, RefcountBlock, RefcountTable}
 
@@ -273,7 +273,7 @@ end-same one other zero same = refl
 end-same one other (suc n) same = rw (same n, end-same one other n same) refl
 
 -- a layout ends where the image does
-pub same-end : (tables : ImageTables) (image : Image) → layout_end tables image * 2 ^ tables.header.v2.cluster_bits ≡ image_end tables image
+pub same-end : (tables : ImageTables) (image : Image) → taken_end tables image * 2 ^ tables.header.v2.cluster_bits ≡ image_end tables image
 same-end tables image =
     let each = λ (c : ℕ). taken-is tables image c ∙ ap (λ b. is_counted tables.header tables.reftable image c || b) (placed-is (image_parts tables image) c ∙ same-uses tables image c ∙ sym (used-is (image_uses tables image) c)) in
     ap (λ n. n * 2 ^ tables.header.v2.cluster_bits)

@@ -6,7 +6,7 @@ use Rattle.qcow2_base.specs.declared.types.HostCluster.{HostCluster}
 use Rattle.qcow2_metadata.specs.Entries.{is_among}
 use Rattle.qcow2_check.specs.Tally.{TallyState, cell_at}
 use Rattle.qcow2_check.specs.Uses.{ImageTables}
-use Rattle.qcow2_layout.specs.Parts.{PlacedUse, code_of, image_parts, part_in, placed}
+use Rattle.qcow2_layout.specs.Parts.{PlacedUse, code_of, image_parts, part_in, placed_use}
 use Rattle.qcow2_layout.specs.Window.{PlacesAll, PlacesMore, cell_after, cell_of}
 use Rattle.qcow2_layout.specs.declared.parts.Part.{Part}
 use Rattle.qcow2_layout.specs.declared.parts.Part.TheVariants.{Compressed, Data, Free, Header, L1Table, L2Table, Leaked, RefcountBlock, RefcountTable}
@@ -23,8 +23,8 @@ places_then first second a b c one other = grind (arith, one, other, fold-append
 -- clusters one after another that are placed one by one
 pub places_next : (part : Part) (first : HostCluster) (count at : ℕ) (a b c : TallyState) → first.0 ≤ at
     → count ≡ at - first.0
-    → PlacesMore (placed part first count ∷ []) a b → PlacesMore (placed part (record { 0 = at }) 1 ∷ []) b c
-    → PlacesMore (placed part first (at + 1 - first.0) ∷ []) a c
+    → PlacesMore (placed_use part first count ∷ []) a b → PlacesMore (placed_use part (record { 0 = at }) 1 ∷ []) b c
+    → PlacesMore (placed_use part first (at + 1 - first.0) ∷ []) a c
 places_next part first count at a b c from is one other = grind (arith, nat_tests, one, other)
 
 -- no part has the number 0

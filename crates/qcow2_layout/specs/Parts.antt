@@ -22,23 +22,23 @@ pub record PlacedUse : Type 0 where
   pub clusters : ClustersToFreeEntry
 
 -- that many clusters from one on, used as this part
-abbrev pub placed : Part → HostCluster → ℕ → PlacedUse
-placed part first count =
+abbrev pub placed_use : Part → HostCluster → ℕ → PlacedUse
+placed_use part first count =
     record { part = part; clusters = record { first = first; count = record { 0 = count } } }
 
 -- the header's cluster, the clusters that the L1 table's bytes are in, and those of the refcount table
 abbrev pub header_parts : HeaderRecord → List PlacedUse
-header_parts header = placed Header (record { 0 = 0 }) 1
-    ∷ placed L1Table (l1_cluster header) (div_ceil (8 * header.v2.l1_size) (2 ^ header.v2.cluster_bits))
-    ∷ placed RefcountTable (reftable_cluster header) header.v2.refcount_table_clusters ∷ []
+header_parts header = placed_use Header (record { 0 = 0 }) 1
+    ∷ placed_use L1Table (l1_cluster header) (div_ceil (8 * header.v2.l1_size) (2 ^ header.v2.cluster_bits))
+    ∷ placed_use RefcountTable (reftable_cluster header) header.v2.refcount_table_clusters ∷ []
 
 -- the block that a refcount table entry names
 abbrev pub block_parts : ℕ → ℕ → List PlacedUse
-block_parts cb v = option_to_list (option_map (λ cluster. placed RefcountBlock cluster 1) (named_block cb v))
+block_parts cb v = option_to_list (option_map (λ cluster. placed_use RefcountBlock cluster 1) (named_block cb v))
 
 -- the L2 table that an L1 entry names
 abbrev pub table_parts : ℕ → ℕ → List PlacedUse
-table_parts cb v = option_to_list (option_map (λ cluster. placed L2Table cluster 1) (named_cluster cb v))
+table_parts cb v = option_to_list (option_map (λ cluster. placed_use L2Table cluster 1) (named_cluster cb v))
 
 -- what the clusters are that the L2 entry of a guest cluster refers to
 abbrev pub entry_part : ℕ → ℕ → ℕ → Part
@@ -94,8 +94,8 @@ is_free Free = true
 is_free part = false
 
 -- where an image with these tables ends, in clusters: after the last that isn't free, of those that can end by the greatest end
-abbrev pub layout_end : ImageTables → Image → ℕ
-layout_end tables image = end_of (λ c. not (is_free (part_at tables image c))) (most_clusters tables.header)
+abbrev pub taken_end : ImageTables → Image → ℕ
+taken_end tables image = end_of (λ c. not (is_free (part_at tables image c))) (most_clusters tables.header)
 
 -- the number that stands for a part in memory
 abbrev pub code_of : Part → ℕ

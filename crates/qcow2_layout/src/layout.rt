@@ -60,7 +60,7 @@ impl<'a> Layout<'a> {
     ghost use Rattle.qcow2_check.specs.Findings.{IsCheckFault, IsLaterFault, checked_tables};
     ghost use Rattle.qcow2_check.specs.ImageEnd.{most_clusters};
     ghost use Rattle.qcow2_layout.specs.declared.parts.Part.TheVariants.{Free};
-    ghost use Rattle.qcow2_layout.specs.Layout.{IsLayoutOf, IsPiece, IsWholeRun, MovesLayout, PassesRun, parts_for, tables_of};
+    ghost use Rattle.qcow2_layout.specs.Layout.{IsLayoutOf, IsStretch, IsWholeRun, MovesLayout, PassesRun, parts_for, layout_tables};
 
     /// A reader of the runs of an image with this header, before the first of them. Reads its tables, and
     /// looks at what uses the first clusters.
@@ -74,7 +74,7 @@ impl<'a> Layout<'a> {
         header: &'a Header,
     ) -> Result<Layout<'a>, Fault>
         ensures uncounted { IfSome (uncounted_part header.now) (λ part. result ≡ Err (Uncounted part)) }
-        ensures reads { Reads tables_of result (checked_tables header.now) (IsCheckFault header.now)
+        ensures reads { Reads layout_tables result (checked_tables header.now) (IsCheckFault header.now)
             (S.state image.old) (S.state image.new) }
         ensures begun { IfOk result (λ layout. (layout.header ≡ header.now) × (layout.position ≡ 0)) }
         ensures reader { IfOk result (λ layout. OnImage (S.state image.old) (λ bytes.
@@ -173,7 +173,7 @@ impl<'a> Layout<'a> {
         requires before { from < most_clusters self.old.header }
         requires reader { OnImage (S.state image.old) (λ bytes. IsLayoutOf bytes self.old) }
         ensures piece { IfOk result (λ piece. OnImage (S.state image.old) (λ bytes.
-            IsPiece self.old.header.v2.cluster_bits (parts_for self.old bytes) from piece)) }
+            IsStretch self.old.header.v2.cluster_bits (parts_for self.old bytes) from piece)) }
         ensures within { IfOk result (λ piece. (from < piece.1)
             × (piece.1 ≤ most_clusters self.old.header)) }
         ensures reader { MovesLayout (S.state image.old) self.old self.new
@@ -196,7 +196,7 @@ impl<'a> Layout<'a> {
         requires before { from < most_clusters self.old.header }
         requires reader { OnImage (S.state image.old) (λ bytes. IsLayoutOf bytes self.old) }
         ensures piece { IfOk result (λ piece. OnImage (S.state image.old) (λ bytes.
-            IsPiece self.old.header.v2.cluster_bits (parts_for self.old bytes) from piece)) }
+            IsStretch self.old.header.v2.cluster_bits (parts_for self.old bytes) from piece)) }
         ensures within { IfOk result (λ piece. (from < piece.1)
             × (piece.1 ≤ most_clusters self.old.header)) }
         ensures reader { MovesLayout (S.state image.old) self.old self.new

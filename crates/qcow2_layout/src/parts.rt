@@ -1,7 +1,7 @@
 //! What clusters of an image are.
 
 ghost use Rattle.std.specs.Prelude.{◌≡◌, ◌↔◌, ◌<◌, ◌^◌, IsTrue, Option};
-ghost use Rattle.qcow2_layout.specs.Layout.{moved_on};
+ghost use Rattle.qcow2_layout.specs.Layout.{moved_part};
 ghost use Rattle.qcow2_layout.specs.Parts.{code_of, is_free, unused_part};
 ghost use Rattle.qcow2_layout.specs.Window.{cell_of};
 
@@ -95,7 +95,7 @@ impl Part {
     // Whether a cluster of this part goes on `bytes` further on as one of the next part.
     #[inline]
     pub(crate) fn goes_on_as(self, bytes: u64, next: Part) -> bool
-        ensures { IsTrue result ↔ (next ≡ moved_on bytes self) }
+        ensures { IsTrue result ↔ (next ≡ moved_part bytes self) }
     {
         match (self, next) {
             (Part::Data(before), Part::Data(offset)) => {

@@ -10,7 +10,7 @@ ghost use Rattle.qcow2_metadata.specs.Placed.{numbers_at};
 ghost use Rattle.qcow2_metadata.specs.Table.{IsEntryFault, l2_entries, l2_layout, loaded_l2_table};
 ghost use Rattle.qcow2_check.specs.NamedTables.{IsInImage};
 ghost use Rattle.qcow2_check.specs.Uses.{all_load, image_tables, l1_entry_loads};
-ghost use Rattle.qcow2_layout.specs.Parts.{HasCode, block_parts, entry_part, entry_parts, header_parts, image_parts, l1_entry_parts, placed, table_parts, uses_from};
+ghost use Rattle.qcow2_layout.specs.Parts.{HasCode, block_parts, entry_part, entry_parts, header_parts, image_parts, l1_entry_parts, placed_use, table_parts, uses_from};
 ghost use Rattle.qcow2_layout.specs.Window.{PlacesMore};
 
 use crate::parts::Part;
@@ -30,7 +30,7 @@ fn place_clusters(
 ) -> Result<(), Fault>
     requires { HasCode part }
     ensures fault { IsOkUnless result NoMemory }
-    ensures placed { OnOk result (PlacesMore (placed part first count ∷ []) window.old window.new) }
+    ensures placed { OnOk result (PlacesMore (placed_use part first count ∷ []) window.old window.new) }
 {
     let start = first.0.max(window.first());
     let end = first.0.saturating_add(count).min(window.end());
@@ -94,7 +94,7 @@ fn place_tables(window: &mut Window, l1_table: &L1Table) -> Result<(), Fault>
 
 // What the clusters are that an entry refers to, by the place of the entry.
 #[inline(always)]
-#[tactic(auto, using(crate::proofs::PlacesLemmas::data_fits, qcow2_check::proofs::FlagsLemmas::guest_offset_fits))]
+#[tactic(auto, using(crate::proofs::PlacesLemmas::data_fits))]
 fn part_of_entry(table: &L2Table, l1_index: usize, index: usize) -> Part
     requires l1_index { l1_index < most_l1_entries }
     requires index { index < l2_entries table.now.geometry.cluster_bits }

@@ -4,7 +4,7 @@ ghost use Rattle.std.specs.Prelude.{◌≡◌, ℕ, ◌+◌, ◌-◌, ◌^◌, �
 ghost use Rattle.qcow2_base.specs.Format.{max_file_length};
 ghost use Rattle.qcow2_base.specs.declared.fault.Fault.TheVariants.{NoMemory};
 ghost use Rattle.qcow2_check.specs.Tally.{cell_at, dense_end};
-ghost use Rattle.qcow2_layout.specs.Parts.{HasCode, placed};
+ghost use Rattle.qcow2_layout.specs.Parts.{HasCode, placed_use};
 ghost use Rattle.qcow2_layout.specs.Window.{PlacesMore};
 
 use crate::parts::Part;
@@ -131,7 +131,7 @@ impl Window {
     pub(crate) fn put(&mut self, cluster: u64, part: Part) -> Result<(), Fault>
         requires { HasCode part }
         ensures fault { IsOkUnless result NoMemory }
-        ensures placed { OnOk result (PlacesMore (placed part (record { 0 = cluster }) 1 ∷ [])
+        ensures placed { OnOk result (PlacesMore (placed_use part (record { 0 = cluster }) 1 ∷ [])
             self.old self.new) }
     {
         if cluster < self.first || cluster >= self.end {
@@ -154,7 +154,7 @@ impl Window {
         requires after { dense_end self.old ≤ cluster }
         requires before { cluster < self.old.end }
         ensures fault { IsOkUnless result NoMemory }
-        ensures placed { OnOk result (PlacesMore (placed part (record { 0 = cluster }) 1 ∷ [])
+        ensures placed { OnOk result (PlacesMore (placed_use part (record { 0 = cluster }) 1 ∷ [])
             self.old self.new) }
     {
         if self.sparse.get(&cluster).copied().unwrap_or(0) != 0 {

@@ -9,7 +9,7 @@ ghost use Rattle.qcow2_metadata.specs.Table.{IsEntryFault};
 ghost use Rattle.qcow2_check.specs.Counters.{IsCountedEnd};
 ghost use Rattle.qcow2_check.specs.Uses.{all_load, image_tables};
 ghost use Rattle.qcow2_layout.specs.Window.{PlacesAll};
-ghost use Rattle.qcow2_layout.specs.Windows.{IsSize, most_cell_bytes};
+ghost use Rattle.qcow2_layout.specs.Windows.{IsSize, most_window_bytes};
 
 use crate::places::place_image;
 use crate::window::Window;
@@ -36,8 +36,8 @@ struct Size {
 // How many cells lie one after another, by how many clusters from their first on the blocks count.
 fn dense_cells(counted: u64) -> usize
     ensures some { 0 < result }
-    ensures bytes { result * 8 ≤ most_cell_bytes }
-    ensures all { counted * 8 ≤ most_cell_bytes → counted ≤ result }
+    ensures bytes { result * 8 ≤ most_window_bytes }
+    ensures all { counted * 8 ≤ most_window_bytes → counted ≤ result }
 {
     counted.clamp(FEW_CELLS, MOST_CELLS) as usize
 }

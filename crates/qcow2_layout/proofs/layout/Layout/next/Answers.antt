@@ -1,7 +1,7 @@
 use Rattle.std.proofs.Common.{◌≡◌, ◌-◌, ◌∙◌, ap, refl, sym, rules, arith}
 use Rattle.qcow2_check.specs.ImageEnd.{most_clusters}
 use Rattle.qcow2_layout.proofs.LayoutLemmas.{ends-by-limit, free-to-limit, run-of-image}
-use Rattle.qcow2_layout.specs.Layout.{LayoutState, tables_of}
+use Rattle.qcow2_layout.specs.Layout.{LayoutState, layout_tables}
 use Rattle.qcow2_layout.specs.declared.parts.Run.{Run}
 use Rattle.qcow2_layout.proofs.layout.Layout.next.Goals as goal
 
@@ -11,7 +11,7 @@ returns-then-start-most_clusters-clause-run g c =
     let last : reader.position ≡ most_clusters reader.header = search rules in (
       omega arith,
       last,
-      λ told. omega (arith, last, ends-by-limit (tables_of reader) (g.S.Storage.state c.args.image.now).byte_at),
+      λ told. omega (arith, last, ends-by-limit (layout_tables reader) (g.S.Storage.state c.args.image.now).byte_at),
     )
 
 pub returns-then-is_past_end-clause-run : goal.returns-then-is_past_end-clause-run
@@ -24,7 +24,7 @@ returns-then-is_past_end-clause-run g c =
     let last : to.position ≡ most_clusters reader.header = free.1 ∙ limit in (
       omega (arith, c.in_ok-part.ensures.further.0),
       last,
-      λ told. free-to-limit (tables_of reader) (g.S.Storage.state c.args.image.now).byte_at reader.header.v2.cluster_bits reader.position to.position
+      λ told. free-to-limit (layout_tables reader) (g.S.Storage.state c.args.image.now).byte_at reader.header.v2.cluster_bits reader.position to.position
           c.in_ok-part.part (c.in_ok-part.ensures.run told).0 free.0 (omega (arith, last)),
     )
 
@@ -43,7 +43,7 @@ returns-clause-run g c =
       omega (arith, further.0),
       omega (arith, further.0),
       further.1,
-      λ told. run-of-image (tables_of reader) (g.S.Storage.state c.args.image.now).byte_at reader.header.v2.cluster_bits reader.position to.position
+      λ told. run-of-image (layout_tables reader) (g.S.Storage.state c.args.image.now).byte_at reader.header.v2.cluster_bits reader.position to.position
           c.in_ok-part.part run (c.in_ok-part.ensures.run told) further.1
           (λ free last. let yes = c.is_past_end.ensures.1 (free, last ∙ sym limit) in cc) refl,
     )

@@ -3,7 +3,7 @@ use Rattle.qcow2_base.specs.Storage.{Image}
 use Rattle.qcow2_check.specs.ImageEnd.{most_clusters}
 use Rattle.qcow2_check.specs.Uses.{ImageTables}
 use Rattle.qcow2_layout.proofs.LayoutLemmas.{moves-twice, pieces-join, reads-twice, run-that-ends, same-tables}
-use Rattle.qcow2_layout.specs.Layout.{IsPiece, LayoutState, parts_for}
+use Rattle.qcow2_layout.specs.Layout.{IsStretch, LayoutState, parts_for}
 use Rattle.qcow2_layout.specs.Parts.{part_at}
 use Rattle.qcow2_layout.specs.declared.parts.Part.{Part}
 use Rattle.qcow2_layout.proofs.layout.Layout.pass_run.Goals as goal
@@ -19,7 +19,7 @@ returns-then-not-goes_on_as-clause-run g c = λ told.
     let size : c.byte_size-bytes.result ≡ (c.loop-end.end - first.position) * 2 ^ first.header.v2.cluster_bits =
     rw (position, bits) at c.byte_size-bytes.ensures in
     let piece = same-tables c.loop-end.end
-    (λ (tables : ImageTables) (image : Image). IsPiece tables.header.v2.cluster_bits (part_at tables image) c.loop-end.end (c.in_ok-next.next, c.in_ok-next.next_end))
+    (λ (tables : ImageTables) (image : Image). IsStretch tables.header.v2.cluster_bits (part_at tables image) c.loop-end.end (c.in_ok-next.next, c.in_ok-next.next_end))
     old (g.S.Storage.state c.loop-end.image) first c.loop-end.self kept.storage kept.reader c.in_ok-next.ensures.piece told in
     run-that-ends first.header.v2.cluster_bits (parts_for first old.byte_at) (most_clusters first.header) first.position c.loop-end.end c.in_ok-next.next_end
     c.byte_size-bytes.result c.in_ok-part.part c.in_ok-next.next kept.some (kept.one told) size piece (λ same. let yes = c.goes_on_as.ensures.1 same in cc)
@@ -44,7 +44,7 @@ loop-end-preserved g c =
       limit = kept.limit;
       one = λ told.
           let piece = same-tables c.loop-end.end
-          (λ (tables : ImageTables) (image : Image). IsPiece tables.header.v2.cluster_bits (part_at tables image) c.loop-end.end (c.in_ok-next.next, c.in_ok-next.next_end))
+          (λ (tables : ImageTables) (image : Image). IsStretch tables.header.v2.cluster_bits (part_at tables image) c.loop-end.end (c.in_ok-next.next, c.in_ok-next.next_end))
           old now first later kept.storage kept.reader c.in_ok-next.ensures.piece told in
           pieces-join first.header.v2.cluster_bits (parts_for first old.byte_at) first.position c.loop-end.end c.in_ok-next.next_end
           c.byte_size-bytes.result c.in_ok-part.part c.in_ok-next.next kept.some more.0 (kept.one told) size (c.goes_on_as.ensures.0 c.if-not-goes_on_as.false) piece.1;
