@@ -93,8 +93,8 @@ same-entry g guest v c = by_file g.external_data_file refl (allocation g v) refl
     by_file : (external : Bool) → g.external_data_file ≡ external → (found : Option ClustersToFreeEntry) → allocation g v ≡ found
         → placed (entry_parts g guest v) c ≡ used (entry_uses g v) c
     by_file true out found is = rw out refl
-    by_file false out None is = rw (out, is) refl
-    by_file false out (Some clusters) is = rw (out, is) refl
+    by_file false out None is = rw (is, out) refl
+    by_file false out (Some clusters) is = rw (is, out) refl
 
 same-entries : (g : Geometry) (guest : ℕ) (vs : List ℕ) (c : ℕ) → placed (uses_from (entry_parts g) guest vs) c ≡ used (flat_map (entry_uses g) vs) c
 same-entries g guest [] c = refl
@@ -198,9 +198,9 @@ none-entry g guest v = by_file g.external_data_file refl (allocation g v) refl (
     by_file : (external : Bool) → g.external_data_file ≡ external → (found : Option ClustersToFreeEntry) → allocation g v ≡ found
         → (packed : Bool) → is_compressed v ≡ packed → none-free (entry_parts g guest v) ≡ true
     by_file true out found is packed kind = rw out refl
-    by_file false out None is packed kind = rw (out, is) refl
-    by_file false out (Some clusters) is true kind = rw (out, is, kind) refl
-    by_file false out (Some clusters) is false kind = rw (out, is, kind) refl
+    by_file false out None is packed kind = rw (is, out) refl
+    by_file false out (Some clusters) is true kind = rw (is, out, kind) refl
+    by_file false out (Some clusters) is false kind = rw (is, out, kind) refl
 
 none-l1 : (g : Geometry) (image : Image) (index v : ℕ) → none-free (l1_entry_parts g image index v) ≡ true
 none-l1 g image index v = by_table (named_cluster g.cluster_bits v) refl
