@@ -1,4 +1,4 @@
-use Rattle.std.proofs.Common.{◌≡◌, ℕ, zero, suc, Bool, true, false, not, ◌&&◌, ◌||◌, ◌==◌, ◌+◌, ◌*◌, ◌^◌, ◌<◌, List, [], ◌∷◌, ◌++◌, flat_map, nat_lt, Option, Some, None, refl, sym, ap, subst, ◌∙◌, arith}
+use Rattle.std.proofs.Common.{◌≡◌, ℕ, zero, suc, Bool, true, false, not, ◌&&◌, ◌||◌, ◌+◌, ◌*◌, ◌^◌, List, [], ◌∷◌, ◌++◌, flat_map, nat_lt, Option, Some, None, refl, sym, ap, subst, ◌∙◌, arith}
 use Rattle.std.specs.Prelude.{is_some}
 use Rattle.std.proofs.lemmas.Bool.{false≢true}
 use Rattle.std.proofs.lemmas.Bool.Decides.{nat_tests}
@@ -7,7 +7,7 @@ use Rattle.qcow2_base.specs.Storage.{Image}
 use Rattle.qcow2_base.specs.declared.types.HostCluster.{HostCluster}
 use Rattle.qcow2_metadata.specs.Entries.{is_among}
 use Rattle.qcow2_metadata.specs.Entries.L2Entry.{allocation, is_compressed}
-use Rattle.qcow2_metadata.specs.Header.{Geometry, HeaderRecord, geometry_of}
+use Rattle.qcow2_metadata.specs.Header.{Geometry, geometry_of}
 use Rattle.qcow2_metadata.specs.Placed.{numbers_at}
 use Rattle.qcow2_metadata.specs.Table.{l2_entries, l2_layout}
 use Rattle.qcow2_metadata.specs.Table.L2Guards.{one_if}
@@ -20,7 +20,7 @@ use Rattle.qcow2_check.specs.Uses.{ImageTables, block_uses, entry_uses, header_u
 use Rattle.qcow2_layout.proofs.LayoutLemmas.{at-none, at-use}
 use Rattle.qcow2_layout.specs.Parts.{PlacedUse, block_parts, entry_parts, header_parts, image_parts, is_free, l1_entry_parts, taken_end, part_at, part_in, table_parts, unused_part, uses_from}
 use Rattle.qcow2_layout.specs.declared.parts.Part.{Part}
-use Rattle.qcow2_layout.specs.declared.parts.Part.TheVariants.{Compressed, Data, Free, Header, L1Table, L2Table, Leaked, RefcountBlock, RefcountTable}
+use Rattle.qcow2_layout.specs.declared.parts.Part.TheVariants.{Free, Leaked}
 
 -- whether some uses have cluster c, of either kind of list
 abbrev used : List ClusterUse → ℕ → Bool
