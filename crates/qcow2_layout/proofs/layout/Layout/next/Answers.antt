@@ -1,9 +1,14 @@
 use Rattle.std.proofs.Common.{◌≡◌, ◌-◌, ◌∙◌, ap, refl, sym, rules, arith}
+use Rattle.qcow2_base.specs.Storage.{StorageState}
 use Rattle.qcow2_check.specs.ImageEnd.{most_clusters}
 use Rattle.qcow2_layout.proofs.LayoutLemmas.{ends-by-limit, free-to-limit, run-of-image}
-use Rattle.qcow2_layout.specs.Layout.{LayoutState, layout_tables}
+use Rattle.qcow2_layout.specs.Layout.{LayoutState, MovesLayout, layout_tables}
 use Rattle.qcow2_layout.specs.declared.parts.Run.{Run}
 use Rattle.qcow2_layout.proofs.layout.Layout.next.Goals as goal
+
+-- a reader that moves has the same limit
+same-limit : (image : StorageState) (old new : LayoutState) → MovesLayout image old new → most_clusters new.header ≡ most_clusters old.header
+same-limit image old new moves = ap (λ (reader : LayoutState). most_clusters reader.header) moves.same
 
 pub returns-then-start-most_clusters-clause-run : goal.returns-then-start-most_clusters-clause-run
 returns-then-start-most_clusters-clause-run g c =
@@ -19,8 +24,7 @@ returns-then-is_past_end-clause-run g c =
     let reader = c.args.self.now in
     let to = c.pass_run.new.self in
     let free = c.is_past_end.ensures.0 c.if-is_past_end.true in
-    let limit : most_clusters to.header ≡ most_clusters reader.header =
-    ap (λ (later : LayoutState). most_clusters later.header) c.in_ok-part.ensures.reader.same in
+    let limit = same-limit (g.S.Storage.state c.args.image.now) reader to c.in_ok-part.ensures.reader in
     let last : to.position ≡ most_clusters reader.header = free.1 ∙ limit in (
       omega (arith, c.in_ok-part.ensures.further.0),
       last,
@@ -35,8 +39,7 @@ returns-clause-run g c =
     let further = c.in_ok-part.ensures.further in
     let start : c.self.inside.position ≡ reader.position = ap (λ (state : LayoutState). state.position) c.self.view_is in
     let end : c.self-2.inside.position ≡ to.position = ap (λ (state : LayoutState). state.position) c.self-2.view_is in
-    let limit : most_clusters to.header ≡ most_clusters reader.header =
-    ap (λ (later : LayoutState). most_clusters later.header) c.in_ok-part.ensures.reader.same in
+    let limit = same-limit (g.S.Storage.state c.args.image.now) reader to c.in_ok-part.ensures.reader in
     let run : Run = record { first = record { 0 = reader.position }; count = to.position - reader.position; part = c.in_ok-part.part } in
     rw (start, end) (
       refl,
