@@ -15,9 +15,13 @@ const DATA_CODE: u64 = 9;
 pub enum Part {
     /// The header's cluster, which is cluster 0.
     Header,
+    /// The bytes of the L1 table are in it.
     L1Table,
+    /// The refcount table is in it.
     RefcountTable,
+    /// An entry of the refcount table names it.
     RefcountBlock,
+    /// An entry of the L1 table names it.
     L2Table,
     /// What a standard L2 entry names: a cluster of guest data, or one that is kept for zeros. It is that of
     /// the guest's cluster at this offset, the lowest where several entries name it.
