@@ -290,7 +290,7 @@ impl<'a> Counters<'a> {
     /// Up to where clusters have no block as this one has none: the end of those that its block would have,
     /// and no end past the refcount table's.
     #[tactic(auto, using(crate::proofs::CountersLemmas::same_block, crate::proofs::CountersLemmas::ends))]
-    pub(crate) fn block_end(&self, cluster: HostCluster) -> u64
+    pub fn block_end(&self, cluster: HostCluster) -> u64
         requires fits { cluster.0 < max_file_length }
         requires none { block_of_cluster self.now.header self.now.reftable cluster.0 ≡ None }
         ensures after { cluster.0 < result }
@@ -335,7 +335,7 @@ impl<'a> Counters<'a> {
 
     /// The refcount table.
     #[inline]
-    pub(crate) fn reftable(&self) -> &RefTable
+    pub fn reftable(&self) -> &RefTable
         ensures numbers { result.now.numbers ≡ self.now.reftable }
         ensures geometry { result.now.geometry ≡ geometry_of self.now.header }
         ensures placed { blocks_fault self.now.header self.now.reftable ≡ None }

@@ -1,0 +1,4 @@
+pub mod EndLemmas
+pub mod LayoutLemmas
+pub mod PlacesLemmas
+pub mod WindowLemmas

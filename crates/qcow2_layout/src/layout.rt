@@ -1,0 +1,254 @@
+//! What each cluster of an image is, in runs.
+
+ghost use Rattle.std.specs.Prelude.{◌≡◌, ℕ, ◌+◌, ◌<◌, ◌≤◌, ◌*◌, ◌^◌, IfErr, IfOk, IfSome, length};
+ghost use Rattle.qcow2_base.specs.Storage.{OnImage, OnlyReads};
+ghost use Rattle.qcow2_metadata.specs.Header.{geometry_of};
+ghost use Rattle.qcow2_metadata.specs.Results.{IsFromOutside, Reads};
+
+use crate::parts::{Part, Run};
+use crate::window::Window;
+use crate::windows::Windows;
+use qcow2_base::{ClusterCount, Fault, HostCluster, Storage};
+use qcow2_check::{Counters, load_l1_table, most_clusters};
+use qcow2_metadata::{Header, L1Table, Table};
+use std::alloc::Global;
+use std::marker::Model;
+
+/// A reader of what the clusters of an image are, run by run. It holds the L1 table, the refcount table, a
+/// refcount block and what a part of the image's clusters are. Clauses see it as what it has of the image and
+/// how far it has come.
+#[derive(Drop)]
+pub struct Layout<'a> {
+    header: &'a Header,
+    l1_table: L1Table,
+    counters: Counters<'a>,
+    window: Option<Window>,
+    position: u64,
+    windows: Windows,
+}
+
+impl<'a> Model for Layout<'a> {
+    ghost use Rattle.std.specs.Prelude.{◌≡◌, ◌<◌, ◌≤◌, IfSome, length};
+    ghost use Rattle.qcow2_base.specs.Format.{max_file_length, most_l1_entries};
+    ghost use Rattle.qcow2_metadata.specs.Header.{geometry_of};
+    ghost use Rattle.qcow2_check.specs.ImageEnd.{most_clusters};
+    ghost use Rattle.qcow2_layout.specs.Layout.{LayoutState};
+
+    ghost Value = { LayoutState };
+
+    ghost view = { λ r. record {
+      header = r.header.now;
+      l1 = r.l1_table.numbers;
+      counters = r.counters;
+      window = r.window;
+      position = r.position;
+    } };
+
+    ghost invariant = { λ r. (r.l1_table.geometry ≡ geometry_of r.header.now)
+        × (length r.l1_table.numbers ≤ most_l1_entries)
+        × (r.counters.header ≡ r.header.now)
+        × (r.position ≤ most_clusters r.header.now)
+        × IfSome r.window (λ window. window.end ≤ max_file_length) };
+}
+
+impl<'a> Layout<'a> {
+    ghost use Rattle.std.specs.Prelude.{◌≡◌, ◌<◌, ◌≤◌, Ok, Err, IfErr, IfOk, IfSome, IsSome, IsSomeAnd, IsTrue, MatchResult, OnOk, ◌+◌, ◌↔◌};
+    ghost use Rattle.qcow2_base.specs.Storage.{OnImage, OnlyReads};
+    ghost use Rattle.qcow2_base.specs.declared.fault.Fault.TheVariants.{Uncounted};
+    ghost use Rattle.qcow2_metadata.specs.Header.{uncounted_part};
+    ghost use Rattle.qcow2_metadata.specs.Results.{result_map};
+    ghost use Rattle.qcow2_check.specs.Findings.{IsCheckFault, IsLaterFault, checked_tables};
+    ghost use Rattle.qcow2_check.specs.ImageEnd.{most_clusters};
+    ghost use Rattle.qcow2_layout.specs.declared.parts.Part.TheVariants.{Free};
+    ghost use Rattle.qcow2_layout.specs.Layout.{IsLayoutOf, IsStretch, IsWholeRun, MovesLayout, PassesRun, parts_for, layout_tables};
+
+    /// A reader of the runs of an image with this header, before the first of them. Reads its tables, and
+    /// looks at what uses the first clusters.
+    ///
+    /// Returns the first of these faults: 37 where the image has snapshots, bitmaps or an encryption header,
+    /// that of the L1 table, that of the refcount table, 21 where a refcount block would end past 2^56, or
+    /// that of an L2 table. Changes no byte.
+    pub fn new<S: Storage>(
+        alloc: Global,
+        image: &mut S,
+        header: &'a Header,
+    ) -> Result<Layout<'a>, Fault>
+        ensures uncounted { IfSome (uncounted_part header.now) (λ part. result ≡ Err (Uncounted part)) }
+        ensures reads { Reads layout_tables result (checked_tables header.now) (IsCheckFault header.now)
+            (S.state image.old) (S.state image.new) }
+        ensures begun { IfOk result (λ layout. (layout.header ≡ header.now) × (layout.position ≡ 0)) }
+        ensures reader { IfOk result (λ layout. OnImage (S.state image.old) (λ bytes.
+            IsLayoutOf bytes layout)) }
+    {
+        if let Some(part) = header.uncounted_part() {
+            return Err(Fault::Uncounted(part));
+        }
+        let l1_table = load_l1_table(alloc, image, header)?;
+        let counters = Counters::new(alloc, image, header)?;
+        let reftable = counters.reftable();
+        let mut windows = Windows::new(header, reftable);
+        let window = windows.place(image, header, &l1_table, reftable, 0)?;
+        Ok(Layout {
+            header,
+            l1_table,
+            counters,
+            window: Some(window),
+            position: 0,
+            windows,
+        })
+    }
+
+    /// The next run, or nothing where the image ends: after the last cluster that isn't free. Runs follow
+    /// one another from cluster 0 on, each as long as its clusters are one part. Those of guest data follow
+    /// one another in the guest's disk too.
+    ///
+    /// Fails where the storage does or memory runs out. The reader then stays before that run, and the call
+    /// can be made again. The image must be the one that the reader was made for, unchanged since. Changes
+    /// no byte.
+    pub fn next<S: Storage>(&mut self, image: &mut S) -> Result<Option<Run>, Fault>
+        requires { OnImage (S.state image.old) (λ bytes. IsLayoutOf bytes self.old) }
+        ensures run { PassesRun (S.state image.old) self.old result self.new.position }
+        ensures reader { MovesLayout (S.state image.old) self.old self.new }
+        ensures fault { IfErr result (IsLaterFault (S.state image.old)) }
+        ensures storage { OnlyReads result (S.state image.old) (S.state image.new) }
+    {
+        let start = self.position;
+        if start == most_clusters(self.header) {
+            return Ok(None);
+        }
+        let part = self.pass_run(image)?;
+        if self.is_past_end(part) {
+            return Ok(None);
+        }
+        Ok(Some(Run {
+            first: HostCluster(start),
+            count: self.position - start,
+            part,
+        }))
+    }
+
+    // Whether clusters of this part before the reader's are free ones at the end of all that can be there.
+    fn is_past_end(&self, part: Part) -> bool
+        ensures { IsTrue result ↔ (part ≡ Free)
+            × (self.now.position ≡ most_clusters self.now.header) }
+    {
+        part == Part::Free && self.position == most_clusters(self.header)
+    }
+
+    // Goes past the clusters from the reader's on that are one, and returns what they are.
+    fn pass_run<S: Storage>(&mut self, image: &mut S) -> Result<Part, Fault>
+        requires before { self.old.position < most_clusters self.old.header }
+        requires reader { OnImage (S.state image.old) (λ bytes. IsLayoutOf bytes self.old) }
+        ensures run { IfOk result (λ part. OnImage (S.state image.old) (λ bytes.
+            IsWholeRun self.old.header.v2.cluster_bits (parts_for self.old bytes)
+            (most_clusters self.old.header) self.old.position (part, self.new.position))) }
+        ensures further { MatchResult result
+            (λ part. (self.old.position < self.new.position)
+            × (self.new.position ≤ most_clusters self.old.header))
+            (λ fault. self.new.position ≡ self.old.position) }
+        ensures reader { MovesLayout (S.state image.old) self.old self.new }
+        ensures fault { IfErr result (IsLaterFault (S.state image.old)) }
+        ensures storage { OnlyReads result (S.state image.old) (S.state image.new) }
+    {
+        let start = self.position;
+        let cluster_bits = self.header.cluster_bits();
+        let limit = most_clusters(self.header);
+        let (part, mut end) = self.piece(image, start)?;
+        while end < limit {
+            let (next, next_end) = self.piece(image, end)?;
+            let bytes = ClusterCount(end - start).byte_size(cluster_bits);
+            if !part.goes_on_as(bytes, next) {
+                self.position = end;
+                return Ok(part);
+            }
+            end = next_end;
+        }
+        self.position = end;
+        Ok(part)
+    }
+
+    // What the cluster from a number on is, and up to where clusters surely go on from it. Looks at them
+    // first, unless it has.
+    fn piece<S: Storage>(&mut self, image: &mut S, from: u64) -> Result<(Part, u64), Fault>
+        requires before { from < most_clusters self.old.header }
+        requires reader { OnImage (S.state image.old) (λ bytes. IsLayoutOf bytes self.old) }
+        ensures piece { IfOk result (λ piece. OnImage (S.state image.old) (λ bytes.
+            IsStretch self.old.header.v2.cluster_bits (parts_for self.old bytes) from piece)) }
+        ensures within { IfOk result (λ piece. (from < piece.1)
+            × (piece.1 ≤ most_clusters self.old.header)) }
+        ensures reader { MovesLayout (S.state image.old) self.old self.new
+            × (self.new.position ≡ self.old.position) }
+        ensures fault { IfErr result (IsLaterFault (S.state image.old)) }
+        ensures storage { OnlyReads result (S.state image.old) (S.state image.new) }
+    {
+        self.keep_window(image, from)?;
+        self.piece_in_window(image, from)
+    }
+
+    // The same of clusters that were looked at.
+    fn piece_in_window<S: Storage>(
+        &mut self,
+        image: &mut S,
+        from: u64,
+    ) -> Result<(Part, u64), Fault>
+        requires window { IsSomeAnd self.old.window (λ window. (window.first ≤ from)
+            × (from < window.end)) }
+        requires before { from < most_clusters self.old.header }
+        requires reader { OnImage (S.state image.old) (λ bytes. IsLayoutOf bytes self.old) }
+        ensures piece { IfOk result (λ piece. OnImage (S.state image.old) (λ bytes.
+            IsStretch self.old.header.v2.cluster_bits (parts_for self.old bytes) from piece)) }
+        ensures within { IfOk result (λ piece. (from < piece.1)
+            × (piece.1 ≤ most_clusters self.old.header)) }
+        ensures reader { MovesLayout (S.state image.old) self.old self.new
+            × (self.new.position ≡ self.old.position) }
+        ensures fault { IfErr result IsFromOutside }
+        ensures storage { OnlyReads result (S.state image.old) (S.state image.new) }
+    {
+        let window = self.window.as_ref().unwrap();
+        if let Some(part) = Part::of_cell(window.cell(from)) {
+            return Ok((part, from + 1));
+        }
+        if !self.counters.has_block(HostCluster(from)) {
+            let limit = self.counters.block_end(HostCluster(from)).min(window.end());
+            let end = limit.min(most_clusters(self.header));
+            return Ok((Part::Free, window.next_used(from + 1, end)));
+        }
+        let counter = self.counters.get(image, HostCluster(from))?;
+        Ok((Part::unused(counter), from + 1))
+    }
+
+    // Whether a cluster was looked at, and those after it.
+    fn has_window(&self, cluster: u64) -> bool
+        ensures { IsTrue result ↔ IsSomeAnd self.now.window (λ window. (window.first ≤ cluster)
+            × (cluster < window.end)) }
+    {
+        match &self.window {
+            Some(window) => window.first() <= cluster && cluster < window.end(),
+            None => false,
+        }
+    }
+
+    // Looks at what uses a cluster and those after it, unless it has.
+    fn keep_window<S: Storage>(&mut self, image: &mut S, cluster: u64) -> Result<(), Fault>
+        requires before { cluster < most_clusters self.old.header }
+        requires reader { OnImage (S.state image.old) (λ bytes. IsLayoutOf bytes self.old) }
+        ensures window { OnOk result (IsSomeAnd self.new.window (λ window. (window.first ≤ cluster)
+            × (cluster < window.end))) }
+        ensures reader { MovesLayout (S.state image.old) self.old self.new
+            × (self.new.position ≡ self.old.position) }
+        ensures fault { IfErr result (IsLaterFault (S.state image.old)) }
+        ensures storage { OnlyReads result (S.state image.old) (S.state image.new) }
+    {
+        if self.has_window(cluster) {
+            return Ok(());
+        }
+        // Its memory is given back before the next takes as much.
+        self.window = None;
+        let reftable = self.counters.reftable();
+        let window = self
+            .windows
+            .place(image, self.header, &self.l1_table, reftable, cluster)?;
+        self.window = Some(window);
+        Ok(())
+    }
+}

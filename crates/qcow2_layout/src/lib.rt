@@ -1,0 +1,13 @@
+//! What each host cluster of an image is: a part of its tables, guest data, leaked or free. As runs of
+//! clusters.
+#![tactic(auto)]
+
+pub mod laws;
+mod layout;
+mod parts;
+mod places;
+mod window;
+mod windows;
+
+pub use layout::Layout;
+pub use parts::{Part, Run};

@@ -1,0 +1,9 @@
+//! Tests of what the clusters of an image are, in runs.
+#![tactic(auto)]
+
+#[cfg(test)]
+mod layout;
+#[cfg(test)]
+mod refused_calls;
+#[cfg(test)]
+mod sample_image;

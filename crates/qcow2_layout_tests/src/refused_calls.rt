@@ -1,0 +1,42 @@
+//! What a refused call of the storage leaves of a layout.
+
+use crate::sample_image::{L2_TABLE, Numbers, REFTABLE, runs_of, sample_image};
+use qcow2_base::Fault;
+use qcow2_testing::{recorded, same, same_bytes};
+use std::test::Fail;
+
+// More calls of the storage than a layout of the image makes.
+const MOST_CALLS: u64 = 64;
+
+// A second block, with a leaked cluster, and data far away.
+const TWO_BLOCKS: Numbers<'static> = &[
+    (REFTABLE + 8, 3072),
+    (3072 + 504, 1),
+    (L2_TABLE + 32, 8192 << 9),
+];
+
+#[test]
+fn a_reader_of_runs_goes_on_after_a_refused_read(rt: HostRuntime) -> Result<(), Fail> {
+    let alloc = rt.alloc();
+    let whole = sample_image(alloc, TWO_BLOCKS)?;
+    let all = runs_of(alloc, &mut sample_image(alloc, TWO_BLOCKS)?)?;
+    let mut image = recorded(alloc, sample_image(alloc, TWO_BLOCKS)?);
+    // whether a reader was made before the refusal
+    let mut is_made = false;
+    for refused in 0..MOST_CALLS {
+        image.plan = Some(refused);
+        let found = runs_of(alloc, &mut image);
+        if image.plan.is_some() {
+            return same((is_made, refused > 5), (true, true), refused);
+        }
+        match found {
+            Ok(found) => {
+                is_made = true;
+                same(found.as_slice(), all.as_slice(), refused)?;
+            }
+            Err(fault) => same((fault, is_made), (Fault::Storage, false), refused)?,
+        }
+        same_bytes(image.inner.bytes(), whole.bytes(), refused)?;
+    }
+    Err(Fail::new("a layout makes ever more calls"))
+}
