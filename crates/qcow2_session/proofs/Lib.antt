@@ -14,7 +14,6 @@ pub mod ExplainLemmas
 pub mod HarmLemmas
 pub mod HelpLemmas
 pub mod HexLemmas
-pub mod LayoutLemmas
 pub mod ListingLemmas
 pub mod MapLemmas
 pub mod OutputLemmas
