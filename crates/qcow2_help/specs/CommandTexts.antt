@@ -1,6 +1,6 @@
 -- What does `help` print of each command?
 use Rattle.std.specs.Prelude.{ℕ, ◌||◌, if◌then◌else◌, List, Option, Some, None, bytes_eq, codes}
-use Rattle.qcow2_help.specs.declared.commands.TheConstants.{APPLY, AT, CHECK, COMMANDS, COUNT, EDIT, HELP, INFO, L2, LIST, MAP, REFCOUNT, TABLES, VERSION}
+use Rattle.qcow2_help.specs.declared.commands.TheConstants.{APPLY, AT, CHECK, COMMANDS, COUNT, EDIT, HELP, INFO, L2, LAYOUT, LIST, MAP, REFCOUNT, TABLES, VERSION}
 
 -- the text on all commands
 unfoldable pub commands_text : List ℕ
@@ -18,6 +18,7 @@ command_text name =
     else if bytes_eq name (codes "map") then Some MAP.now
     else if bytes_eq name (codes "at") then Some AT.now
     else if bytes_eq name (codes "tables") then Some TABLES.now
+    else if bytes_eq name (codes "layout") then Some LAYOUT.now
     else if bytes_eq name (codes "refcount") then Some REFCOUNT.now
     else if bytes_eq name (codes "check") then Some CHECK.now
     else if bytes_eq name (codes "apply") then Some APPLY.now

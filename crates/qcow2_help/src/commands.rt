@@ -11,6 +11,7 @@ qmeta prints what a qcow2 disk image says about itself, and edits it.
   map IMAGE [json]                what the whole disk reads as, extent by extent
   at IMAGE OFFSET                 what one guest offset reads as
   tables IMAGE                    where the header, tables and refcount blocks lie
+  layout IMAGE                    what each host cluster is, in runs
   refcount IMAGE CLUSTER..        the counters of host clusters
   check IMAGE [json]              whether counters and flags are what the tables say
   check IMAGE repair              make them so, and check what is left
@@ -93,6 +94,18 @@ Status 0: printed. 1: a fault, and no line. Faults: those of `info`, and 18 to 2
 refcount table.
 
   $ qmeta tables disk.qcow2
+";
+
+const LAYOUT: &str = "\
+qmeta layout IMAGE
+
+Prints what each host cluster is, from 0 up to the last one in use, in lines `FIRST COUNT PART`. PART is one
+of `header`, `l1`, `l2`, `refcount-table`, `refcount-block`, `data OFFSET` with the guest offset of the first
+cluster, `compressed`, `leaked`, `free`. Only reads.
+
+Status 0: printed. 1: a fault; only 34 and 35 come after a line. Faults: those of `check`.
+
+  $ qmeta layout disk.qcow2
 ";
 
 const REFCOUNT: &str = "\
@@ -232,6 +245,7 @@ pub fn command_help(name: &str) -> Option<&'static str>
         "map" => Some(MAP),
         "at" => Some(AT),
         "tables" => Some(TABLES),
+        "layout" => Some(LAYOUT),
         "refcount" => Some(REFCOUNT),
         "check" => Some(CHECK),
         "apply" => Some(APPLY),

@@ -14,6 +14,7 @@ pub mod ExplainLemmas
 pub mod HarmLemmas
 pub mod HelpLemmas
 pub mod HexLemmas
+pub mod LayoutLemmas
 pub mod ListingLemmas
 pub mod MapLemmas
 pub mod OutputLemmas

@@ -9,6 +9,7 @@ use Rattle.qcow2_apply.specs.declared.changed_clusters.ChangedClusters.{ChangedC
 use Rattle.qcow2_session.proofs.PrintingLemmas.{run_between}
 use Rattle.qcow2_session.specs.Commands.Apply.{EndsApply, PrintsClusters}
 use Rattle.qcow2_session.specs.Commands.Changing.{ChangeEnd, PrintsChange}
+use Rattle.qcow2_session.specs.Commands.Layout.{PrintsLayout}
 use Rattle.qcow2_session.specs.Commands.List.{PrintsList, PrintsTablesBefore, TableTexts}
 use Rattle.qcow2_session.specs.Commands.Map.{Disk, PrintsExtents}
 use Rattle.qcow2_session.specs.Commands.Printing.{OutputBytes, Prints, PrintsLast, PrintsText}
@@ -96,6 +97,12 @@ pub fine-PrintsExtents : {O : Type 0} (ran : Result (Unit {0}) Fault) (format : 
     → PrintsExtents (run_between contents ran old new a b) format disk → PrintsExtents (run_between contents (fine_unless_failed ran) old new a b) format disk
 fine-PrintsExtents (Ok done) format disk contents old new a b prints = record { extents = prints.extents; refused = tt }
 fine-PrintsExtents (Err fault) format disk contents old new a b prints = record { extents = tt; refused = prints.refused }
+
+-- the layout of an image was printed
+pub fine-PrintsLayout : {O : Type 0} (ran : Result (Unit {0}) Fault) (header : HeaderRecord) (contents : O → OutputBytes) (old new : StorageState) (a b : O)
+    → PrintsLayout (run_between contents ran old new a b) header → PrintsLayout (run_between contents (fine_unless_failed ran) old new a b) header
+fine-PrintsLayout (Ok done) header contents old new a b prints = record { all = prints.all; refused = tt }
+fine-PrintsLayout (Err fault) header contents old new a b prints = record { all = tt; refused = prints.refused }
 
 -- a failed call of the image is the storage fault
 pub fine-ReadsFor : (ran : Result (Unit {0}) Fault) (old new : StorageState) → ReadsFor (IsErrOf ran Storage) old new → ReadsFor (IsErrOf (fine_unless_failed ran) Storage) old new

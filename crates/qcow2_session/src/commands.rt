@@ -18,6 +18,7 @@ mod explain;
 mod help;
 mod info;
 mod l2;
+mod layout;
 mod list;
 mod map;
 mod refcount;
@@ -35,6 +36,7 @@ pub use edit::edit_entries;
 pub use explain::locate_fault;
 pub use info::print_info;
 pub use l2::{ClusterBits, list_l2_table};
+pub use layout::print_layout;
 pub use list::list_tables;
 pub use map::{ExtentFormat, print_extents};
 pub use refcount::print_counters;
@@ -62,6 +64,8 @@ pub enum Command {
     },
     /// `tables IMAGE`: where the header, the tables and the refcount blocks lie.
     Tables,
+    /// `layout IMAGE`: what each host cluster is, in runs.
+    Layout,
     /// `refcount IMAGE CLUSTER..`: the counters of host clusters.
     Refcount {
         clusters: Arguments<HostCluster>,
@@ -111,6 +115,7 @@ impl Command {
             "map" => map::parse(arguments),
             "at" => at::parse(arguments),
             "tables" => alone(Command::Tables, arguments),
+            "layout" => alone(Command::Layout, arguments),
             "refcount" => refcount::parse(alloc, arguments),
             "check" => check::parse(alloc, image, arguments),
             "apply" => apply::parse(alloc, arguments),

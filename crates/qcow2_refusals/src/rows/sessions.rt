@@ -28,6 +28,7 @@ pub(crate) const RUNS: &[Run] = rows! {
     Run { call: Command("map"), reports: EXTENTS, ..OF_A_DISK },
     Run { call: Command("map json"), reports: JSON, ..OF_A_DISK },
     Run { call: Command("tables"), before: COUNTED, after: COUNTED, reports: PLACES, ..OF_A_DISK },
+    Run { call: Command("layout"), before: COUNTED, after: COUNTED, reports: LAYOUT, ..OF_A_DISK },
     Run { call: Command("refcount 5 0"), before: COUNTED, after: COUNTED, reports: "5 2\n0 1\n",
         ..OF_A_DISK },
     Run { call: Command("check"), before: COUNTED, after: COUNTED, reports: CHECKED, ..OF_A_DISK },
@@ -76,6 +77,10 @@ const COUNTED: Numbers = &[
 // Where everything lies in it.
 const PLACES: &str =
     "header 0 1\nl1 1 1\nl2 0 2 0x0 0x8000 1\nrefcount-table 3 1\nrefcount-block 0 4 0\n";
+
+// What each of its clusters is.
+const LAYOUT: &str =
+    "0 1 header\n1 1 l1\n2 1 l2\n3 1 refcount-table\n4 1 refcount-block\n5 1 data 0x600\n";
 
 // The same where each counter is its cluster's uses.
 const REPAIRED: Numbers = &[

@@ -22,6 +22,7 @@ use super::explain::Question;
 use super::help::HelpText;
 use super::info::print_info;
 use super::l2::{new_header, print_l2_table};
+use super::layout::print_layout;
 use super::list::list_tables;
 use super::map::print_extents;
 use super::refcount::print_counters;
@@ -225,7 +226,7 @@ fn refuse_far_clusters<R: Files + AllocGlobal>(
 fn reads_all_tables(command: &Command) -> bool {
     matches!(
         command,
-        Command::List | Command::Map { .. } | Command::Check { .. }
+        Command::List | Command::Map { .. } | Command::Layout | Command::Check { .. }
     )
 }
 
@@ -292,6 +293,7 @@ pub fn run<S: Storage, O: Write>(
             fine(print_mapping_at(alloc, image, &header, *guest_offset, out))
         }
         Command::Tables => fine(print_tables(alloc, image, &header, out)),
+        Command::Layout => fine(print_layout(alloc, image, &header, out)),
         Command::Refcount { clusters } => {
             fine(print_counters(alloc, image, &header, clusters.as_slice(), out))
         }

@@ -272,8 +272,8 @@ impl ToLine for TableLine {
     }
 }
 
-// Puts two numbers in front of a line.
-fn prepend_pair(line: &mut LineBuffer, first: u64, second: u64)
+/// Puts two numbers in front of a line.
+pub(super) fn prepend_pair(line: &mut LineBuffer, first: u64, second: u64)
     requires { length line.old ≤ 100 }
     ensures text { line.new ≡ pair_text first second ++ line.old }
     ensures bound { length line.new ≤ length line.old + 41 }

@@ -48,6 +48,12 @@ pub(crate) const EXTENTS: &str =
 const TABLES: &str =
     "header 0 1\nl1 1 1\nl2 0 2 0x0 0x8000 1\nrefcount-table 3 1\nrefcount-block 0 4 0\n";
 
+const LAYOUT: &str =
+    "0 1 header\n1 1 l1\n2 1 l2\n3 1 refcount-table\n4 1 refcount-block\n5 1 data 0x600\n";
+
+const LEAKY: &str = "0 1 header\n1 1 l1\n2 1 l2\n3 1 refcount-table\n4 1 refcount-block\n\
+    5 1 data 0x600\n6 5 free\n11 1 leaked\n";
+
 const ROWS: &[Row] = rows! {
     Row { line: "l2 IMAGE 9 2", before: &[(0, 0)], printed: "3 data 0xa00 copied\n", after: &[(0, 0)],
         ..ROW },
@@ -72,6 +78,15 @@ const ROWS: &[Row] = rows! {
     Row { line: "tables IMAGE", before: counted!((0x608, 1 << 56)), answer: Some(Err(Fault::TablePlace)),
         after: counted!((0x608, 1 << 56)), ..ROW },
     Row { line: "tables IMAGE 0", answer: None, ..ROW },
+    Row { line: "layout IMAGE", before: counted!((88, 1)), printed: LAYOUT, after: counted!((88, 1)), ..ROW },
+    // without a block no cluster is leaked
+    Row { line: "layout IMAGE", printed: "0 1 header\n1 1 l1\n2 1 l2\n3 2 free\n5 1 data 0x600\n", ..ROW },
+    // cluster 11 has a counter and no use
+    Row { line: "layout IMAGE", before: counted!((0x810, 1)), printed: LEAKY, after: counted!((0x810, 1)),
+        ..ROW },
+    Row { line: "layout IMAGE", before: counted!((0x608, 1 << 56)), answer: Some(Err(Fault::TablePlace)),
+        after: counted!((0x608, 1 << 56)), ..ROW },
+    Row { line: "layout IMAGE 0", answer: None, ..ROW },
     // the last number is that of a cluster past the refcount table's end
     Row { line: "refcount IMAGE 5 0 5 6 18446744073709551615", before: counted!((88, 1)),
         printed: "5 1\n0 1\n5 1\n6 0\n18446744073709551615 0\n", after: counted!((88, 1)), ..ROW },

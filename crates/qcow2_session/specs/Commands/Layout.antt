@@ -1,0 +1,81 @@
+-- What does the command `layout` print?
+use Rattle.std.specs.Prelude.{◌≡◌, ◌⊎◌, ℕ, ◌+◌, true, false, List, [], ◌∷◌, ◌++◌, flat_map, None, Result, IfErr, IsErrOf, IsOkAnd, OnOk, codes}
+use Rattle.qcow2_base.specs.Storage.{Image, OnImage, ReadsFor}
+use Rattle.qcow2_base.specs.declared.fault.Fault.TheVariants.{Storage}
+use Rattle.qcow2_check.specs.Findings.{checked_tables}
+use Rattle.qcow2_check.specs.Uses.{ImageTables}
+use Rattle.qcow2_layout.specs.Layout.{IsRun, LayoutState, Parts, layout_tables, parts_for}
+use Rattle.qcow2_layout.specs.Parts.{part_at, taken_end}
+use Rattle.qcow2_layout.specs.declared.parts.Part.{Part}
+use Rattle.qcow2_layout.specs.declared.parts.Part.TheVariants as part
+use Rattle.qcow2_layout.specs.declared.parts.Run.{Run}
+use Rattle.qcow2_metadata.specs.Header.{HeaderRecord}
+use Rattle.qcow2_metadata.specs.Results.{IsFromOutside}
+use Rattle.qcow2_session.specs.Commands.Facts.{CommandFacts}
+use Rattle.qcow2_session.specs.Commands.Printing.{IsReadFault, OutputGets, OutputGetsPart, Run as Printed}
+use Rattle.qcow2_session.specs.Commands.Tables.{pair_text}
+use Rattle.qcow2_session.specs.Lines.{offset_text}
+
+-- what a line says of a part of an image
+abbrev pub part_text : Part → List ℕ
+part_text part.Header = codes "header"
+part_text part.L1Table = codes "l1"
+part_text part.L2Table = codes "l2"
+part_text part.RefcountTable = codes "refcount-table"
+part_text part.RefcountBlock = codes "refcount-block"
+part_text (part.Data offset) = codes "data " ++ offset_text offset.0
+part_text part.Compressed = codes "compressed"
+part_text part.Leaked = codes "leaked"
+part_text part.Free = codes "free"
+
+-- the line of a run: its first cluster, how many it has, and what they are
+abbrev pub run_line : Run → List ℕ
+run_line run = pair_text run.first.0 run.count ++ codes " " ++ part_text run.part ++ codes "\n"
+
+-- runs of an image that ends before a cluster, one after another, from one cluster on up to another
+abbrev pub AreRunsTo : ℕ → Parts → ℕ → ℕ → List Run → ℕ → Type 0
+AreRunsTo cb parts end from [] to = from ≡ to
+AreRunsTo cb parts end from (run ∷ runs) to = IsRun cb parts end from run × AreRunsTo cb parts end (from + run.count) runs to
+
+-- the runs of an image with these tables, from a cluster on up to another
+abbrev pub AreRunsOf : ImageTables → Image → ℕ → List Run → ℕ → Type 0
+AreRunsOf tables image = AreRunsTo tables.header.v2.cluster_bits (part_at tables image) (taken_end tables image)
+
+-- a run prints an image's runs from a reader's cluster on: all of them after `Ok`. A fault after these began is that of a failed
+-- call or of memory, and the output got a beginning of their lines
+pub record PrintsRunsFrom {A O : Type 0} (printed : Printed A O) (reader : LayoutState) : Type 0 where
+  pub all : OnOk printed.answer (OnImage printed.old (λ bytes. (runs : List Run)
+      × AreRunsOf (layout_tables reader) bytes reader.position runs (taken_end (layout_tables reader) bytes)
+      × OutputGets printed (flat_map run_line runs)))
+  pub some : IfErr printed.answer (λ fault. OnImage printed.old (λ bytes. IsFromOutside fault × (runs : List Run) × (to : ℕ)
+      × AreRunsOf (layout_tables reader) bytes reader.position runs to × OutputGetsPart printed (flat_map run_line runs)))
+
+-- the output got the lines of all runs of an image with these tables
+abbrev pub PrintsAllRuns : {A O : Type 0} → Printed A O → Image → ImageTables → Type 0
+PrintsAllRuns printed image tables = (runs : List Run) × AreRunsOf tables image 0 runs (taken_end tables image)
+    × OutputGets printed (flat_map run_line runs)
+
+-- or a beginning of those of its first runs
+abbrev pub PrintsSomeRuns : {A O : Type 0} → Printed A O → Image → ImageTables → Type 0
+PrintsSomeRuns printed image tables = (runs : List Run) × (to : ℕ) × AreRunsOf tables image 0 runs to
+    × OutputGetsPart printed (flat_map run_line runs)
+
+-- a run prints the layout of an image with this header: all its runs, or nothing where its tables can't be read, or a beginning
+-- before a failed call or memory that runs out
+pub record PrintsLayout {A O : Type 0} (printed : Printed A O) (header : HeaderRecord) : Type 0 where
+  pub all : OnOk printed.answer (OnImage printed.old (λ bytes. IsOkAnd (checked_tables header bytes) (PrintsAllRuns printed bytes)))
+  pub refused : IfErr printed.answer (λ fault. OnImage printed.old (λ bytes.
+      (IsReadFault (checked_tables header bytes) printed fault × OutputGets printed [])
+      ⊎ IsOkAnd (checked_tables header bytes) (λ tables. IsFromOutside fault × PrintsSomeRuns printed bytes tables)))
+
+-- the facts of the command `layout`, which prints run by run
+abbrev pub layout_facts : CommandFacts
+layout_facts = record {
+  changes_image = false;
+  loads_to_write = false;
+  prints_before_faults = true;
+  has_verdict = false;
+  cluster_bits = None;
+  place_fault = None;
+  Ends = λ header run. PrintsLayout run header × ReadsFor (IsErrOf run.answer Storage) run.old run.new;
+}

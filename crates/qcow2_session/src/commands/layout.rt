@@ -1,0 +1,90 @@
+//! The command `layout`: what each host cluster of an image is, run by run.
+
+ghost use Rattle.std.specs.Prelude.{◌≡◌, ◌+◌, ◌≤◌, ◌++◌, IsErrOf, length};
+ghost use Rattle.qcow2_base.specs.Storage.{OnImage, ReadsFor};
+ghost use Rattle.qcow2_base.specs.declared.fault.Fault.TheVariants.{Storage as StorageFailed};
+ghost use Rattle.qcow2_layout.specs.Layout.{IsLayoutOf};
+ghost use Rattle.qcow2_session.specs.Commands.Layout.{PrintsLayout, PrintsRunsFrom, part_text, run_line};
+ghost use Rattle.qcow2_session.specs.Commands.Printing.{run_over};
+
+use super::tables::prepend_pair;
+use crate::lines::{LineBuffer, ToLine, print};
+use qcow2_base::{Fault, Storage};
+use qcow2_layout::{Layout, Part, Run};
+use qcow2_metadata::Header;
+use std::alloc::Global;
+use std::io::Write;
+
+/// Prints what each host cluster of an image with this header is, from cluster 0 up to the last one that is
+/// in use, in runs: a run's first cluster, how many it has, and what they are. Guest data has the guest
+/// offset of the first, and goes on in the guest's disk as in the image. Where a cluster has several uses,
+/// that of the header, a table or a block is printed, or else the one of the lowest guest offset.
+///
+/// Returns the fault of `Layout::new` before any line. A fault after a line is 34 or 35. A failed write to
+/// `out` is the storage fault. Changes no byte of the image.
+pub fn print_layout<S: Storage, O: Write>(
+    alloc: Global,
+    image: &mut S,
+    header: &Header,
+    out: &mut O,
+) -> Result<(), Fault>
+    ensures prints { PrintsLayout (run_over S.state O.contents result image.old image.new out.old out.new)
+        header.now }
+    ensures storage { ReadsFor (IsErrOf result StorageFailed) (S.state image.old) (S.state image.new) }
+{
+    let mut layout = Layout::new(alloc, image, header)?;
+    print_runs(&mut layout, image, out)
+}
+
+// Prints all runs of the image that a reader is at the start of.
+fn print_runs<S: Storage, O: Write>(
+    layout: &mut Layout<'_>,
+    image: &mut S,
+    out: &mut O,
+) -> Result<(), Fault>
+    requires reader { OnImage (S.state image.old) (λ bytes. IsLayoutOf bytes layout.old) }
+    requires begun { layout.old.position ≡ 0 }
+    ensures prints { PrintsRunsFrom (run_over S.state O.contents result image.old image.new out.old out.new)
+        layout.old }
+    ensures storage { ReadsFor (IsErrOf result StorageFailed) (S.state image.old) (S.state image.new) }
+{
+    while let Some(run) = layout.next(image)? {
+        print(run.to_line().as_bytes(), out)?;
+    }
+    Ok(())
+}
+
+impl ToLine for Run {
+    ghost line = { run_line };
+
+    fn to_line(&self) -> LineBuffer {
+        let mut line = LineBuffer::new();
+        line.prepend("\n");
+        prepend_part(&mut line, self.part);
+        line.prepend(" ");
+        prepend_pair(&mut line, self.first.0, self.count);
+        line
+    }
+}
+
+// Puts what a line says of a part in front of it.
+fn prepend_part(line: &mut LineBuffer, part: Part)
+    requires { length line.old ≤ 100 }
+    ensures text { line.new ≡ part_text part ++ line.old }
+    ensures bound { length line.new ≤ length line.old + 23 }
+{
+    match part {
+        Part::Header => line.prepend("header"),
+        Part::L1Table => line.prepend("l1"),
+        Part::L2Table => line.prepend("l2"),
+        Part::RefcountTable => line.prepend("refcount-table"),
+        Part::RefcountBlock => line.prepend("refcount-block"),
+        Part::Data(offset) => {
+            line.prepend_offset(offset.0);
+            line.prepend("data ");
+        }
+        Part::Compressed => line.prepend("compressed"),
+        Part::Leaked => line.prepend("leaked"),
+        Part::Free => line.prepend("free"),
+    }
+}
