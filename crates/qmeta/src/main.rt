@@ -3,33 +3,63 @@
 
 use qcow2_base::Fault;
 use qcow2_locks::{HeldImage, hold_alone};
+use qcow2_progress::{Progress, WatchedFiles, WatchedOutput, l2_offsets};
 use qcow2_session::Command;
 use std::fs::File;
 use std::io;
-use std::io::{BufWriter, ErrorKind, Write};
+use std::io::{BufWriter, ErrorKind, IsTerminal};
 use std::process::ExitCode;
 use std::rt::Files;
 
 fn main(rt: HostRuntime) -> ExitCode {
-    let mut err = rt.stderr();
-    ExitCode::from(match run(&rt, &mut err) {
+    ExitCode::from(match run(&rt) {
         Ok(status) => status,
-        Err(fault) => qcow2_session::report_fault(fault, &mut err),
+        Err(fault) => qcow2_session::report_fault(fault, &mut rt.stderr()),
     })
 }
 
 // Runs the words of the command line, and returns the status. The storage fault, with no image opened,
 // where the standard descriptors can't be taken. An image that is changed is held until the end.
-fn run<E: Write>(rt: &HostRuntime, err: &mut E) -> Result<u8, Fault> {
+fn run(rt: &HostRuntime) -> Result<u8, Fault> {
     let Ok(_taken) = take_standard_descriptors(rt) else {
         return Err(Fault::Storage);
     };
     let words = words_of(rt)?;
     let _held = hold_image(rt, words.as_slice())?;
-    let Ok(mut out) = BufWriter::new(rt.alloc(), rt.stdout()) else {
+    let tables = watched_tables(rt, words.as_slice());
+    run_watched(rt, words.as_slice(), tables.as_slice())
+}
+
+// Runs words, and tells at a terminal how far it is with these tables of the image.
+fn run_watched(rt: &HostRuntime, words: &[String], tables: &[u64]) -> Result<u8, Fault> {
+    let progress = Progress::new(rt.alloc(), rt, rt.stderr(), tables);
+    let files = WatchedFiles::new(rt, &progress);
+    let out = WatchedOutput::new(rt.stdout(), &progress, rt.stdout().is_terminal());
+    let mut err = WatchedOutput::new(rt.stderr(), &progress, true);
+    let Ok(mut out) = BufWriter::new(rt.alloc(), out) else {
         return Err(Fault::NoMemory);
     };
-    Ok(qcow2_session::run_words(rt, words.as_slice(), &mut out, err))
+    let status = qcow2_session::run_words(&files, words, &mut out, &mut err);
+    progress.wipe();
+    Ok(status)
+}
+
+// Where the L2 tables begin whose reads are told of: those of the image, where the words ask for a command
+// that reads all, and standard error is a terminal. None where they can't be read, as the command will say.
+fn watched_tables(rt: &HostRuntime, words: &[String]) -> Vec<u64> {
+    let none = Vec::new(rt.alloc());
+    let [name, image, arguments @ ..] = words else {
+        return none;
+    };
+    if !rt.stderr().is_terminal() {
+        return none;
+    }
+    match Command::parse(rt.alloc(), name.as_str(), image.as_str(), arguments) {
+        Some(Ok(command)) if command.reads_all_tables() => {
+            l2_offsets(rt, image.as_str()).unwrap_or(none)
+        }
+        _ => none,
+    }
 }
 
 // Files that nothing can be written to. While they are held, no file that is opened later gets descriptor 0,

@@ -1,0 +1,123 @@
+//! The line on how far a command is.
+
+use std::alloc::Global;
+use std::cell::Cell;
+use std::io::Write;
+use std::time::{Clock, Duration, Instant};
+
+// How many milliseconds a command runs before it is told how far it is.
+const PATIENCE: u64 = 2000;
+
+// For how many milliseconds a line stays as it is.
+const PAUSE: u64 = 100;
+
+// Goes to the begin of a terminal's line, and wipes it.
+const WIPE: &str = "\r\x1b[K";
+
+/// How far a command is that reads an image's L2 tables: how many of them it has begun to read. Two seconds
+/// after the start a line says it, which is drawn anew at most ten times a second.
+#[derive(Drop)]
+pub struct Progress<'a, C, E> {
+    alloc: Global,
+    clock: &'a C,
+    terminal: E,
+    tables: &'a [u64],
+    // When a line may be drawn, if ever.
+    next: Cell<Option<Instant>>,
+    begun: Cell<u64>,
+    is_shown: Cell<bool>,
+    is_mid_line: Cell<bool>,
+}
+
+impl<'a, C: Clock, E: Write + Copy> Progress<'a, C, E> {
+    /// Of a command that begins now, and of an image whose L2 tables begin at these offsets, in their order.
+    /// Without any nothing is ever drawn.
+    pub fn new(alloc: Global, clock: &'a C, terminal: E, tables: &'a [u64]) -> Progress<'a, C, E> {
+        Progress {
+            alloc,
+            clock,
+            terminal,
+            tables,
+            next: Cell::new(if tables.is_empty() {
+                None
+            } else {
+                later(clock, PATIENCE)
+            }),
+            begun: Cell::new(0),
+            is_shown: Cell::new(false),
+            is_mid_line: Cell::new(false),
+        }
+    }
+
+    /// Takes the line away, if one is there.
+    pub fn wipe(&self) {
+        if self.is_shown.replace(false) {
+            self.show(WIPE);
+        }
+    }
+
+    // Counts the tables that begin from an offset on, up to another one, and draws the line if it is time.
+    pub(crate) fn has_read(&self, first: u64, end: u64) {
+        if self.next.get().is_none() {
+            return;
+        }
+        let before = self.tables.partition_point(|table| *table < first);
+        let after = self.tables.partition_point(|table| *table < end);
+        let begun = self.begun.get();
+        self.begun
+            .set(begun.saturating_add(after.saturating_sub(before) as u64));
+        if self.is_time() {
+            self.draw();
+        }
+    }
+
+    // Other lines are written to the same terminal. No line is drawn into one that isn't whole.
+    pub(crate) fn has_written(&self, bytes: &[u8]) {
+        if let Some(last) = bytes.last() {
+            self.is_mid_line.set(*last != b'\n');
+        }
+    }
+
+    // Whether a line may be drawn now.
+    fn is_time(&self) -> bool {
+        match (self.next.get(), Instant::now(self.clock)) {
+            (Some(next), Ok(now)) => !self.is_mid_line.get() && next <= now,
+            _ => false,
+        }
+    }
+
+    // Draws the line. Where memory runs out there is none.
+    fn draw(&self) {
+        let (begun, all) = (self.begun.get(), self.tables.len() as u64);
+        let Some(last) = begun.checked_sub(1) else {
+            return;
+        };
+        let (Some(pass), Some(index)) = (last.checked_div(all), last.checked_rem(all)) else {
+            return;
+        };
+        let (pass, table) = (pass.saturating_add(1), index.saturating_add(1));
+        let line = if pass == 1 {
+            format!(in self.alloc; "{WIPE}qmeta: table {table} of {all}")
+        } else {
+            format!(in self.alloc; "{WIPE}qmeta: table {table} of {all}, pass {pass}")
+        };
+        if let Ok(line) = line {
+            self.is_shown.set(true);
+            self.show(line.as_str());
+        }
+        self.next.set(later(self.clock, PAUSE));
+    }
+
+    // Writes to the terminal. What it doesn't take is left out.
+    fn show(&self, text: &str) {
+        let mut terminal = self.terminal;
+        let _ = terminal.write_all(text.as_bytes());
+    }
+}
+
+// The time that many milliseconds from now, if a clock tells it.
+fn later<C: Clock>(clock: &C, pause: u64) -> Option<Instant> {
+    Instant::now(clock)
+        .ok()?
+        .checked_add(Duration::from_millis(pause))
+}
