@@ -1,6 +1,6 @@
 //! What a refused call of the storage leaves of a layout.
 
-use crate::sample_image::{L2_TABLE, Numbers, REFTABLE, runs_of, sample_image};
+use crate::sample_image::{L2_TABLE, Numbers, REFTABLE, runs_of, sample_image, shapes_of_image};
 use qcow2_base::Fault;
 use qcow2_testing::{recorded, same, same_bytes};
 use std::test::Fail;
@@ -39,4 +39,22 @@ fn a_reader_of_runs_goes_on_after_a_refused_read(rt: HostRuntime) -> Result<(), 
         same_bytes(image.inner.bytes(), whole.bytes(), refused)?;
     }
     Err(Fail::new("a layout makes ever more calls"))
+}
+
+#[test]
+fn a_picture_is_whole_or_refused_with_each_read(rt: HostRuntime) -> Result<(), Fail> {
+    let alloc = rt.alloc();
+    let whole = sample_image(alloc, TWO_BLOCKS)?;
+    let all = shapes_of_image(alloc, &mut sample_image(alloc, TWO_BLOCKS)?)?;
+    let mut image = recorded(alloc, sample_image(alloc, TWO_BLOCKS)?);
+    for refused in 0..MOST_CALLS {
+        image.plan = Some(refused);
+        let found = shapes_of_image(alloc, &mut image);
+        same_bytes(image.inner.bytes(), whole.bytes(), refused)?;
+        if image.plan.is_some() {
+            return same((found, refused > 5), (Ok(all), true), refused);
+        }
+        same(found.err(), Some(Fault::Storage), refused)?;
+    }
+    Err(Fail::new("a picture makes ever more calls"))
 }

@@ -3,6 +3,7 @@
 use qcow2_base::{Fault, MemStorage, Storage};
 use qcow2_layout::{Layout, Run};
 use qcow2_metadata::Header;
+use qcow2_picture::{Shape, picture_of};
 use qcow2_testing::{image_with, put_all};
 use std::alloc::Global;
 
@@ -74,4 +75,14 @@ fn read_runs<S: Storage>(
         }
     }
     Ok(())
+}
+
+/// How many clusters a square of the picture of an image stands for, and its shapes.
+pub(crate) fn shapes_of_image<S: Storage>(
+    alloc: Global,
+    image: &mut S,
+) -> Result<(u64, Vec<Shape>), Fault> {
+    let header = Header::load(alloc, image, false)?;
+    let picture = picture_of(alloc, image, &header)?;
+    Ok((picture.scale(), picture.shapes(alloc)?))
 }
