@@ -7,7 +7,7 @@ _qmeta_commands=(
     'map IMAGE json'
     'at IMAGE OFFSET'
     'tables IMAGE'
-    'layout IMAGE'
+    'layout IMAGE svg'
     'refcount IMAGE CLUSTER..'
     'check IMAGE json|repair'
     'apply IMAGE plan|EDIT EDIT..'

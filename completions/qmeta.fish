@@ -8,7 +8,7 @@ set -g __qmeta_commands \
     'map IMAGE json:what the whole disk reads as, extent by extent' \
     'at IMAGE OFFSET:what one guest offset reads as' \
     'tables IMAGE:where the header, tables and refcount blocks lie' \
-    'layout IMAGE:what each host cluster is, in runs' \
+    'layout IMAGE svg:what each host cluster is, in runs or as a picture' \
     'refcount IMAGE CLUSTER..:the counters of host clusters' \
     'check IMAGE json|repair:whether counters and flags are what the tables say' \
     'apply IMAGE plan|EDIT EDIT..:change what ranges of the disk read as, with all counters' \

@@ -4,11 +4,10 @@ ghost use Rattle.std.specs.Prelude.{◌≡◌};
 ghost use Rattle.qcow2_base.specs.Storage.{OnImage};
 ghost use Rattle.qcow2_check.specs.Findings.{IsFindingsOf};
 
-use super::places::Place;
+use super::places::{Place, entry_offset};
 use super::refusals::Refusal;
-use crate::{load_l1_table, named_cluster};
 use qcow2_base::{Fault, Storage};
-use qcow2_check::{Counters, Finding, Findings};
+use qcow2_check::{Counters, Finding, Findings, load_l1_table, named_cluster};
 use qcow2_metadata::{Header, L1Table, Table, TableEntry};
 use std::alloc::Global;
 
@@ -69,10 +68,9 @@ pub(super) fn shared_table_refusal<S: Storage>(
 
 // The L1 entry at an index, whose L2 table has this counter.
 fn shared_place(header: &Header, l1_table: &L1Table, l1_index: usize, counter: u64) -> Place {
-    let begin = header.l1_table_offset().0;
     Place::SharedTable {
         index: l1_index,
-        offset: begin.saturating_add((l1_index as u64).saturating_mul(8)),
+        offset: entry_offset(header.l1_table_offset().0, l1_index),
         number: l1_table.get(l1_index).to_plain(),
         counter,
     }

@@ -29,7 +29,12 @@ enum Form {
 
 /// A field of the header: its name, where its bytes begin, how many they are, and how its value is written.
 #[derive(Clone, Copy)]
-pub(super) struct Field(&'static str, u64, u32, Form);
+pub(super) struct Field {
+    name: &'static str,
+    offset: u64,
+    bytes: u32,
+    form: Form,
+}
 
 impl Field {
     /// Writes where the field is, and a value of it.
@@ -38,7 +43,12 @@ impl Field {
         value: u64,
         f: &mut fmt::Formatter<W>,
     ) -> fmt::Result {
-        let Field(name, offset, _, form) = *self;
+        let Field {
+            name,
+            offset,
+            form,
+            ..
+        } = *self;
         match form {
             Form::Count => write!(f, "byte {offset}: {name} is {value}"),
             Form::Bits => write!(f, "byte {offset}: {name} is {value:#x}"),
@@ -46,33 +56,103 @@ impl Field {
     }
 }
 
-const MAGIC: Field = Field("magic", 0, 4, Form::Bits);
+const MAGIC: Field = Field {
+    name: "magic",
+    offset: 0,
+    bytes: 4,
+    form: Form::Bits,
+};
 
-const VERSION: Field = Field("version", 4, 4, Form::Count);
+const VERSION: Field = Field {
+    name: "version",
+    offset: 4,
+    bytes: 4,
+    form: Form::Count,
+};
 
-const BACKING_OFFSET: Field = Field("backing_file_offset", 8, 8, Form::Bits);
+const BACKING_OFFSET: Field = Field {
+    name: "backing_file_offset",
+    offset: 8,
+    bytes: 8,
+    form: Form::Bits,
+};
 
-const BACKING_SIZE: Field = Field("backing_file_size", 16, 4, Form::Count);
+const BACKING_SIZE: Field = Field {
+    name: "backing_file_size",
+    offset: 16,
+    bytes: 4,
+    form: Form::Count,
+};
 
-const CLUSTER_BITS: Field = Field("cluster_bits", 20, 4, Form::Count);
+const CLUSTER_BITS: Field = Field {
+    name: "cluster_bits",
+    offset: 20,
+    bytes: 4,
+    form: Form::Count,
+};
 
-const L1_SIZE: Field = Field("l1_size", 36, 4, Form::Count);
+const L1_SIZE: Field = Field {
+    name: "l1_size",
+    offset: 36,
+    bytes: 4,
+    form: Form::Count,
+};
 
-const L1_OFFSET: Field = Field("l1_table_offset", 40, 8, Form::Bits);
+const L1_OFFSET: Field = Field {
+    name: "l1_table_offset",
+    offset: 40,
+    bytes: 8,
+    form: Form::Bits,
+};
 
-const REFTABLE_OFFSET: Field = Field("refcount_table_offset", 48, 8, Form::Bits);
+const REFTABLE_OFFSET: Field = Field {
+    name: "refcount_table_offset",
+    offset: 48,
+    bytes: 8,
+    form: Form::Bits,
+};
 
-const REFTABLE_CLUSTERS: Field = Field("refcount_table_clusters", 56, 4, Form::Count);
+const REFTABLE_CLUSTERS: Field = Field {
+    name: "refcount_table_clusters",
+    offset: 56,
+    bytes: 4,
+    form: Form::Count,
+};
 
-const SNAPSHOTS: Field = Field("nb_snapshots", 60, 4, Form::Count);
+const SNAPSHOTS: Field = Field {
+    name: "nb_snapshots",
+    offset: 60,
+    bytes: 4,
+    form: Form::Count,
+};
 
-const INCOMPATIBLE: Field = Field("incompatible_features", 72, 8, Form::Bits);
+const INCOMPATIBLE: Field = Field {
+    name: "incompatible_features",
+    offset: 72,
+    bytes: 8,
+    form: Form::Bits,
+};
 
-const AUTOCLEAR: Field = Field("autoclear_features", 88, 8, Form::Bits);
+const AUTOCLEAR: Field = Field {
+    name: "autoclear_features",
+    offset: 88,
+    bytes: 8,
+    form: Form::Bits,
+};
 
-const REFCOUNT_ORDER: Field = Field("refcount_order", 96, 4, Form::Count);
+const REFCOUNT_ORDER: Field = Field {
+    name: "refcount_order",
+    offset: 96,
+    bytes: 4,
+    form: Form::Count,
+};
 
-const HEADER_LENGTH: Field = Field("header_length", 100, 4, Form::Count);
+const HEADER_LENGTH: Field = Field {
+    name: "header_length",
+    offset: 100,
+    bytes: 4,
+    form: Form::Count,
+};
 
 // Which fields each topic is about.
 const FIELDS: &[(Topic, Field)] = &[
@@ -127,8 +207,8 @@ pub(super) fn fields_of<S: Storage>(
 fn read_field<S: Storage>(image: &mut S, field: Field) -> Result<Place, Fault>
     ensures unchanged { (S.state image.new).byte_at ≡ (S.state image.old).byte_at }
 {
-    let Field(_, offset, bytes, _) = field;
-    Ok(Place::Field(field, read_number(image, offset, bytes)?))
+    let value = read_number(image, field.offset, field.bytes)?;
+    Ok(Place::Field(field, value))
 }
 
 /// The number of 4 or 8 bytes of an image, from an offset on. Past the end of all images it is 0. Changes no

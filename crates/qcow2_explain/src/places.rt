@@ -81,3 +81,8 @@ impl fmt::Display for Place {
         }
     }
 }
+
+/// Where the entry of a table is that begins at an offset. Past the largest offset it is that one.
+pub(super) fn entry_offset(begin: u64, index: usize) -> u64 {
+    begin.saturating_add((index as u64).saturating_mul(8))
+}

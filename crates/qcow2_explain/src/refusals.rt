@@ -11,34 +11,31 @@ use qcow2_base::{Fault, MemStorage, Storage, UncountedPart};
 use qcow2_metadata::Header;
 use std::alloc::{AllocError, Global};
 
-/// A fault of an image, by its number, and where in the image it is.
+/// A fault of an image, and where in the image it is.
 #[derive(Drop)]
 pub(super) struct Refusal {
-    pub(super) fault: u64,
+    pub(super) fault: Fault,
     pub(super) places: Vec<Place>,
 }
 
 impl Refusal {
-    /// The refusal by a fault, at these places.
-    pub(super) fn new(fault: Fault, places: Vec<Place>) -> Refusal {
-        Refusal {
-            fault: u64::from(fault.number()),
-            places,
-        }
-    }
-
     /// The refusal by a fault, at one place.
     pub(super) fn at(alloc: Global, fault: Fault, place: Place) -> Result<Refusal, AllocError> {
         let mut places = Vec::new(alloc);
         places.push(place)?;
-        Ok(Refusal::new(fault, places))
+        Ok(Refusal { fault, places })
+    }
+
+    /// The number of the fault.
+    pub(super) fn number(&self) -> u64 {
+        u64::from(self.fault.number())
     }
 }
 
 /// Whether a refusal is one by the fault of a number.
 pub(super) fn is_of(refusal: &Option<Refusal>, number: u64) -> bool {
     match refusal {
-        Some(refusal) => refusal.fault == number,
+        Some(refusal) => refusal.number() == number,
         None => false,
     }
 }
@@ -120,7 +117,7 @@ fn header_refusal<S: Storage>(alloc: Global, image: &mut S, fault: Fault) -> Res
         12..=16 => extensions_of(alloc, image, number)?,
         _ => return Err(fault),
     };
-    Ok(Refusal::new(fault, places))
+    Ok(Refusal { fault, places })
 }
 
 // The refusal by a fault of fields of a header.
@@ -132,7 +129,7 @@ fn by_fields<S: Storage>(
     ensures unchanged { (S.state image.new).byte_at ≡ (S.state image.old).byte_at }
 {
     let places = fields_of(alloc, image, Topic::Fault(u64::from(fault.number())))?;
-    Ok(Some(Refusal::new(fault, places)))
+    Ok(Some(Refusal { fault, places }))
 }
 
 // The refusal of an image with a part whose clusters aren't counted.
@@ -146,6 +143,7 @@ fn by_part<S: Storage>(
     if part == UncountedPart::Snapshots {
         return by_fields(alloc, image, Fault::Uncounted(part));
     }
+    let fault = Fault::Uncounted(part);
     let places = extensions_of(alloc, image, 37)?;
-    Ok(Some(Refusal::new(Fault::Uncounted(part), places)))
+    Ok(Some(Refusal { fault, places }))
 }

@@ -4,11 +4,10 @@ ghost use Rattle.std.specs.Prelude.{◌≡◌};
 ghost use Rattle.qcow2_metadata.specs.Header.{geometry_of};
 
 use super::fields::{Topic, fields_of, read_number};
-use super::places::Place;
+use super::places::{Place, entry_offset};
 use super::refusals::{Refusal, is_of};
-use crate::{load_l1_table, load_l2_table, named_cluster};
 use qcow2_base::{Fault, MAX_FILE_LENGTH, Storage};
-use qcow2_check::{load_reftable, named_block};
+use qcow2_check::{load_l1_table, load_l2_table, load_reftable, named_block, named_cluster};
 use qcow2_metadata::{
     Header, L1Entry, L1Table, L2Entry, RefTable, RefTableEntry, Table, TableEntry,
 };
@@ -114,7 +113,7 @@ fn refusal_at<S: Storage, E: TableEntry>(
         Fault::TableTooBig | Fault::TablePlace => fields_of(alloc, image, table.topic)?,
         _ => return Err(fault),
     };
-    Ok(Refusal::new(fault, places))
+    Ok(Refusal { fault, places })
 }
 
 fn entry_place(table: &TablePlace, bad: &BadEntry) -> Place {
@@ -136,7 +135,7 @@ fn first_bad<S: Storage, E: TableEntry>(
     ensures unchanged { (S.state image.new).byte_at ≡ (S.state image.old).byte_at }
 {
     for index in 0..entries {
-        let offset = begin.saturating_add((index as u64).saturating_mul(8));
+        let offset = entry_offset(begin, index);
         let number = read_number(image, offset, 8)?;
         if !E::is_lawful(number, header) {
             return Ok(Some(BadEntry {
@@ -187,12 +186,13 @@ fn l2_refusal_at<S: Storage>(
     let fault = match load_l2_table(alloc, image, header, cluster) {
         Ok(_) => return Ok(None),
         Err(Fault::NoMemory) => return Err(Fault::NoMemory),
+        Err(Fault::Storage) => return Err(Fault::Storage),
         Err(fault) => fault,
     };
     let offset = cluster.0.wrapping_shl(header.cluster_bits());
     let bad = first_bad::<S, L2Entry>(image, header, offset, header.l2_entries())?;
     let places = places_of(alloc, bad.map(|bad| guest_place(header, l1_index, &bad)))?;
-    Ok(Some(Refusal::new(fault, places)))
+    Ok(Some(Refusal { fault, places }))
 }
 
 // The place of an entry of the L2 table of an L1 entry.
@@ -219,9 +219,7 @@ fn block_refusal(
         if block.is_some_and(|block| block.0 >= MAX_FILE_LENGTH >> header.cluster_bits()) {
             let bad = BadEntry {
                 index,
-                offset: table
-                    .offset
-                    .saturating_add((index as u64).saturating_mul(8)),
+                offset: entry_offset(table.offset, index),
                 number: reftable.get(index).to_plain(),
             };
             return Ok(Some(Refusal::at(alloc, Fault::TablePlace, entry_place(table, &bad))?));

@@ -11,7 +11,7 @@ qmeta prints what a qcow2 disk image says about itself, and edits it.
   map IMAGE [json]                what the whole disk reads as, extent by extent
   at IMAGE OFFSET                 what one guest offset reads as
   tables IMAGE                    where the header, tables and refcount blocks lie
-  layout IMAGE                    what each host cluster is, in runs
+  layout IMAGE [svg]              what each host cluster is, in runs or as a picture
   refcount IMAGE CLUSTER..        the counters of host clusters
   check IMAGE [json]              whether counters and flags are what the tables say
   check IMAGE repair              make them so, and check what is left
@@ -98,14 +98,16 @@ refcount table.
 
 const LAYOUT: &str = "\
 qmeta layout IMAGE
+qmeta layout IMAGE svg
 
 Prints what each host cluster is, from 0 up to the last one in use, in lines `FIRST COUNT PART`. PART is one
 of `header`, `l1`, `l2`, `refcount-table`, `refcount-block`, `data OFFSET` with the guest offset of the first
-cluster, `compressed`, `leaked`, `free`. Only reads.
+cluster, `compressed`, `leaked`, `free`. With `svg` it prints a picture with a legend, of at most 200 kB, for
+a browser. Only reads.
 
 Status 0: printed. 1: a fault; only 34 and 35 come after a line. Faults: those of `check`.
 
-  $ qmeta layout disk.qcow2
+  $ qmeta layout disk.qcow2 svg > disk.svg
 ";
 
 const REFCOUNT: &str = "\

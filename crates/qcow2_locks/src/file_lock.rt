@@ -3,6 +3,10 @@
 ghost use Rattle.std.specs.Prelude.{◌≡◌, ◌↔◌, IsTrue};
 ghost use Rattle.qcow2_locks.specs.FileLock.{BarsWriting, HasByte};
 
+use qcow2_base::field;
+use std::fs::Metadata;
+use std::os::unix::fs::MetadataExt;
+
 /// A file, as a list of locks names it: both parts of its device's number, and the file's number there.
 #[derive(Clone, Copy, Debug, PartialEq, Eq)]
 pub struct FileId {
@@ -12,6 +16,16 @@ pub struct FileId {
 }
 
 impl FileId {
+    /// The file that has this metadata. Each part of its device's number lies there in two pieces.
+    pub fn of(metadata: &Metadata) -> FileId {
+        let device = metadata.dev();
+        FileId {
+            major: field(device, 8, 12) + (field(device, 44, 20) << 12),
+            minor: field(device, 0, 8) + (field(device, 20, 24) << 8),
+            inode: metadata.ino(),
+        }
+    }
+
     // `fe:00:1097734`, where the device is hexadecimal.
     fn parse(text: &str) -> Option<FileId> {
         let (major, rest) = text.split_once(':')?;

@@ -61,11 +61,19 @@ fn refuse_barred<R: Files + AllocGlobal>(rt: &R, file: &File) -> Result<(), Faul
     let Some(id) = locked_file(own_locks.as_str()) else {
         return Ok(());
     };
-    let locks = text_of(rt, "/proc/locks")?;
+    let locks = listed_locks(rt)?;
     if is_barred(locks.as_str(), &id) {
         return Err(Fault::InUse);
     }
     Ok(())
+}
+
+/// The system's list of locks, a line each, as `FileLock::parse` reads them. It is empty where the system has
+/// none, or none that may be read. Fault 34 where a call of the system fails.
+pub fn listed_locks<R: Files + AllocGlobal>(rt: &R) -> Result<String, Fault>
+    ensures faults { IfErr result IsHoldFault }
+{
+    text_of(rt, "/proc/locks")
 }
 
 // What a file of the system says, or no text where there is none, or none that may be read.

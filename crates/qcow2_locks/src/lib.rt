@@ -5,4 +5,4 @@ mod file_lock;
 mod held_image;
 
 pub use file_lock::{FileId, FileLock, LockKind};
-pub use held_image::{HeldImage, hold_alone};
+pub use held_image::{HeldImage, hold_alone, listed_locks};

@@ -1,4 +1,4 @@
-use Rattle.std.proofs.Common.{◌≡◌, ℕ, ◌+◌, ◌<◌, Bool, true, false, List, [], ◌∷◌, length, take, flat_map, Option, Some, None, Result, Ok, Err, codes, bytes_eq, refl, sym, subst, arith, inl, inr, ◌∙◌, take_all, MatchResult, OnErr, OnOk}
+use Rattle.std.proofs.Common.{◌≡◌, ℕ, ◌+◌, ◌<◌, ◌≤◌, Bool, true, false, List, [], ◌∷◌, length, take, flat_map, Option, Some, None, Result, Ok, Err, codes, bytes_eq, refl, sym, subst, arith, inl, inr, ◌∙◌, take_all, MatchResult, OnErr, OnOk}
 use Rattle.std.proofs.lemmas.Slice.Eq.{bytes_eq-Decides}
 use Rattle.std.specs.List.{range_with_len}
 use Rattle.std.specs.Io.KnownBytes.{Appends, Keeps}
@@ -98,3 +98,8 @@ asked_printed (Ok done) ran ended (Err error) status a b c text prints kept is o
     inr ((rw (rw is at flush) at ends), kept-part a b c text (all-part a b text prints.text) kept)
 asked_printed (Err fault) ran ended flushed status a b c text prints kept is own flush ends =
     inr ((rw (rw is at own) at ends), kept-part a b c text prints.part kept)
+
+-- a text that was asked for ends a run with 0 or 1
+pub asked_status : (status : ℕ) (text : List ℕ) (a b : Option (List ℕ)) → PrintsAsked status text a b → status ≤ 4
+asked_status status text a b (inl printed) = omega (arith, printed.0)
+asked_status status text a b (inr cut) = omega (arith, cut.0)

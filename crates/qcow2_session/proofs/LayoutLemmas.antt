@@ -11,19 +11,16 @@ use Rattle.qcow2_check.specs.Uses.{ImageTables}
 use Rattle.qcow2_layout.specs.Layout.{IsRun, LayoutState, Parts, layout_tables}
 use Rattle.qcow2_layout.specs.Parts.{part_at, taken_end}
 use Rattle.qcow2_layout.specs.declared.parts.Run.{Run}
+use Rattle.qcow2_picture.proofs.ImageLemmas.{IsRunOf}
 use Rattle.qcow2_metadata.specs.Header.{HeaderRecord}
 use Rattle.qcow2_session.proofs.OutputLemmas.{part_taken}
 use Rattle.qcow2_session.proofs.PrintingLemmas.{read_fault-of, run_between}
-use Rattle.qcow2_session.specs.Commands.Layout.{AreRunsOf, AreRunsTo, PrintsAllRuns, PrintsLayout, PrintsRunsFrom, PrintsSomeRuns, run_line}
+use Rattle.qcow2_session.specs.Commands.Layout.{AreRunsOf, AreRunsTo, PrintsAllRuns, PrintsInLines, PrintsRunsFrom, PrintsSomeRuns, run_line}
 use Rattle.qcow2_session.specs.Commands.Printing.{AppendsPart, OutputBytes, OutputGets, OutputGetsPart, Run as Printed}
 
 -- all of some bytes are a beginning of them
 pub whole-part : (a b : OutputBytes) (bytes : List ℕ) → Appends a b bytes → AppendsPart a b bytes
 whole-part a b bytes all = part_taken a b bytes (length bytes) (rw (take_all (length bytes) bytes (omega arith)) all)
-
--- the run at a cluster of an image with these tables
-abbrev pub IsRunOf : ImageTables → Image → ℕ → Run → Type 0
-IsRunOf tables image = IsRun tables.header.v2.cluster_bits (part_at tables image) (taken_end tables image)
 
 -- runs, and one more
 runs-more : (cb : ℕ) (parts : Parts) (end from to : ℕ) (runs : List Run) (run : Run) → AreRunsTo cb parts end from runs to → IsRun cb parts end to run
@@ -38,16 +35,6 @@ runs_of-more tables image = runs-more tables.header.v2.cluster_bits (part_at tab
 -- the lines of runs, and of one more
 pub run_lines-more : (runs : List Run) (run : Run) → flat_map run_line (runs ++ (run ∷ [])) ≡ flat_map run_line runs ++ run_line run
 run_lines-more runs run = rw (flat_map-append run_line runs (run ∷ []), append-nil (run_line run)) refl
-
--- the run that a reader comes to is one of the image that was there before it read
-pub run-known : (tables now : ImageTables) (image mid : Image) (at : ℕ) (run : Run) → now ≡ tables → mid ≡ image → IsRunOf now mid at run → IsRunOf tables image at run
-run-known tables now image mid at run same bytes is =
-    subst (λ (t : ImageTables). IsRunOf t image at run) same (subst (λ (b : Image). IsRunOf now b at run) bytes is)
-
--- and so is its end
-pub end-known : (tables now : ImageTables) (image mid : Image) (at : ℕ) → now ≡ tables → mid ≡ image → taken_end now mid ≤ at → taken_end tables image ≤ at
-end-known tables now image mid at same bytes is =
-    subst (λ (t : ImageTables). taken_end t image ≤ at) same (subst (λ (b : Image). taken_end now b ≤ at) bytes is)
 
 -- runs up to an image's end
 pub runs-end : (tables : ImageTables) (image : Image) (from to : ℕ) (runs : List Run) → AreRunsOf tables image from runs to → to ≤ taken_end tables image
@@ -73,7 +60,7 @@ some-known printed tables now image mid at same begun bytes is =
 pub layout-printed : {A O : Type 0} (answer : Result A Fault) (header : HeaderRecord) (tables : ImageTables) (reader : LayoutState) (contents : O → OutputBytes)
     (old mid new : StorageState) (a c : O) → layout_tables reader ≡ tables → (IsTrue old.tells → checked_tables header old.byte_at ≡ Ok tables) → reader.position ≡ 0
     → mid.byte_at ≡ old.byte_at → mid.tells ≡ old.tells → PrintsRunsFrom (run_between contents answer mid new a c) reader
-    → PrintsLayout (run_between contents answer old new a c) header
+    → PrintsInLines (run_between contents answer old new a c) header
 layout-printed {A = A} (Ok done) header tables reader contents old mid new a c same read begun bytes tells printed = record {
   all = λ told.
       let here = all-known {A = A} (run_between contents (Ok done) old new a c) tables (layout_tables reader) old.byte_at mid.byte_at reader.position same begun bytes
@@ -93,7 +80,7 @@ layout-printed {A = A} (Err fault) header tables reader contents old mid new a c
 -- tables that can't be loaded: nothing is printed
 pub layout-none : {A O : Type 0} (fault : Fault) (header : HeaderRecord) (contents : O → OutputBytes) (old new : StorageState) (a : O)
     → (IsTrue old.tells → (fault ≡ Storage) ⊎ (fault ≡ NoMemory) ⊎ (checked_tables header old.byte_at ≡ Err fault)) → (fault ≡ Storage → new.failures ≢ old.failures)
-    → PrintsLayout {A = A} (run_between contents (Err fault) old new a a) header
+    → PrintsInLines {A = A} (run_between contents (Err fault) old new a a) header
 layout-none {A = A} fault header contents old new a refused failed = record {
   all = tt;
   refused = λ told. inl (read_fault-of fault (checked_tables header old.byte_at) (run_between {A = A} contents (Err fault) old new a a) (refused told) failed, Appends-nil _);

@@ -18,6 +18,7 @@ pub mod LayoutLemmas
 pub mod ListingLemmas
 pub mod MapLemmas
 pub mod OutputLemmas
+pub mod PictureLemmas
 pub mod PrintingLemmas
 pub mod RefcountLemmas
 pub mod ReportLemmas

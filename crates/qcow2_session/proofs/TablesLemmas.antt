@@ -1,22 +1,17 @@
-use Rattle.std.proofs.Common.{◌≡◌, ℕ, ◌+◌, ◌-◌, ◌*◌, ◌^◌, ◌<◌, ◌≤◌, nat_lt, List, [], ◌∷◌, ◌++◌, append-nil, append_assoc, flat_map, Result, Ok, IsTrue, ap, inl, inr, sym, subst, ◌∙◌, arith}
+use Rattle.std.proofs.Common.{◌≡◌, ℕ, ◌+◌, ◌-◌, ◌*◌, ◌^◌, ◌<◌, ◌≤◌, List, [], ◌∷◌, ◌++◌, append-nil, append_assoc, flat_map, Result, Ok, IsTrue, ap, sym, ◌∙◌, arith}
 use Rattle.std.proofs.Math.Pow.{pow_mono}
-use Rattle.std.proofs.lemmas.Bool.{cases_Bool}
-use Rattle.std.proofs.lemmas.Bool.Decides.{nat_tests}
 use Rattle.std.proofs.lemmas.List.Concat.{flat_map-append}
 use Rattle.std.proofs.lemmas.Nat.{mul-lt}
 use Rattle.std.specs.List.{range_with_len}
 use Rattle.qcow2_apply.proofs.PlannedTablesLemmas.{range-split}
 use Rattle.qcow2_base.specs.Storage.{Image, OnImage, OnlyReads, StorageState}
 use Rattle.qcow2_base.specs.declared.fault.Fault.{Fault}
-use Rattle.qcow2_base.specs.declared.types.HostCluster.{HostCluster}
 use Rattle.qcow2_check.proofs.FlagsLemmas.{guest_offset_fits}
 use Rattle.qcow2_check.specs.Counters.{CountersState, IsSameButBlock, placed_reftable}
 use Rattle.qcow2_check.specs.NamedTables.{loaded_l1_table, reftable_cluster}
 use Rattle.qcow2_check.specs.Uses.{image_tables}
 use Rattle.qcow2_metadata.specs.Header.{HeaderRecord}
-use Rattle.qcow2_metadata.specs.Placed.{RefusesPlace}
 use Rattle.qcow2_metadata.specs.Results.{and_then, result_map}
-use Rattle.qcow2_metadata.specs.Table.{Kind, table_layout}
 use Rattle.qcow2_session.specs.Commands.Tables.{block_place, block_places, first_places, image_places, l2_place, l2_places, places_of, reftable_entries}
 use Rattle.qcow2_session.specs.declared.commands.tables.TableLine.{TableLine}
 use Rattle.qcow2_session.specs.declared.commands.tables.TableLine.TheVariants as line
@@ -75,14 +70,6 @@ tables-more x image mid old now header l1 start so_far new n told reads kept exa
     let tables : now.reftable ≡ old.reftable = ap (λ (c : CountersState). c.reftable) kept.same in
     let here : place old.reftable image.byte_at ≡ new = ap (λ r. place r image.byte_at) (sym tables) ∙ ap (place now.reftable) (sym reads.bytes) ∙ at_mid in
     added-more (l2_place (image_tables header l1 old.reftable) image.byte_at) start so_far new n before here
-
--- a table whose place is not refused has at most as many entries as its kind may have
-pub few-entries : {T : Type 0} (kind : Kind) (cb n : ℕ) (cluster : HostCluster) (answer : Result T Fault) (value : T) → answer ≡ Ok value
-    → RefusesPlace (table_layout kind cb n) cluster answer → n ≤ kind.most
-few-entries kind cb n cluster answer value is refuses = elim (cases_Bool (nat_lt kind.most n)) [
-  | inl more ↦ absurd (grind (arith, is, more, refuses))
-  | inr not ↦ grind (arith, nat_tests, not)
-]
 
 -- a list that ends with an item and others
 ends-with : {X : Type 0} (first second last : List X) (item : X) → first ++ (second ++ item ∷ last) ≡ ((first ++ second) ++ item ∷ []) ++ last

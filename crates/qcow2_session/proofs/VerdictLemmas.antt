@@ -16,6 +16,8 @@ use Rattle.qcow2_session.specs.Commands.Printing.{OutputBytes, Prints, PrintsLas
 use Rattle.qcow2_session.specs.Commands.Verdict.{fine_unless_failed}
 use Rattle.qcow2_session.specs.declared.commands.apply.ApplyForm.{ApplyForm}
 use Rattle.qcow2_session.specs.declared.commands.apply.DiskEdit.{DiskEdit}
+use Rattle.qcow2_session.specs.declared.commands.layout.LayoutForm.{LayoutForm}
+use Rattle.qcow2_session.specs.declared.commands.layout.LayoutForm.TheVariants.{Lines, Svg}
 use Rattle.qcow2_session.specs.declared.commands.map.ExtentFormat.{ExtentFormat}
 
 -- What holds of a run holds of it with a verdict too, that all is fine unless it failed.
@@ -76,7 +78,7 @@ any-PrintsTablesBefore one other fault tables contents old new a b ended = recor
 }
 
 -- what holds of a value where one is meant
-is_ok_and-weaker : {V : Type 0} (P Q : V → Type 0) (meant : Result V Fault) → ((value : V) → P value → Q value) → IsOkAnd meant P → IsOkAnd meant Q
+pub is_ok_and-weaker : {V : Type 0} (P Q : V → Type 0) (meant : Result V Fault) → ((value : V) → P value → Q value) → IsOkAnd meant P → IsOkAnd meant Q
 is_ok_and-weaker P Q (Ok value) leads holds = leads value holds
 is_ok_and-weaker P Q (Err fault) leads holds = absurd holds
 
@@ -99,10 +101,12 @@ fine-PrintsExtents (Ok done) format disk contents old new a b prints = record { 
 fine-PrintsExtents (Err fault) format disk contents old new a b prints = record { extents = tt; refused = prints.refused }
 
 -- the layout of an image was printed
-pub fine-PrintsLayout : {O : Type 0} (ran : Result (Unit {0}) Fault) (header : HeaderRecord) (contents : O → OutputBytes) (old new : StorageState) (a b : O)
-    → PrintsLayout (run_between contents ran old new a b) header → PrintsLayout (run_between contents (fine_unless_failed ran) old new a b) header
-fine-PrintsLayout (Ok done) header contents old new a b prints = record { all = prints.all; refused = tt }
-fine-PrintsLayout (Err fault) header contents old new a b prints = record { all = tt; refused = prints.refused }
+pub fine-PrintsLayout : {O : Type 0} (ran : Result (Unit {0}) Fault) (form : LayoutForm) (header : HeaderRecord) (contents : O → OutputBytes) (old new : StorageState) (a b : O)
+    → PrintsLayout form (run_between contents ran old new a b) header → PrintsLayout form (run_between contents (fine_unless_failed ran) old new a b) header
+fine-PrintsLayout (Ok done) Lines header contents old new a b prints = record { all = prints.all; refused = tt }
+fine-PrintsLayout (Err fault) Lines header contents old new a b prints = record { all = tt; refused = prints.refused }
+fine-PrintsLayout (Ok done) Svg header contents old new a b prints = record { all = prints.all; refused = tt }
+fine-PrintsLayout (Err fault) Svg header contents old new a b prints = record { all = tt; refused = prints.refused }
 
 -- a failed call of the image is the storage fault
 pub fine-ReadsFor : (ran : Result (Unit {0}) Fault) (old new : StorageState) → ReadsFor (IsErrOf ran Storage) old new → ReadsFor (IsErrOf (fine_unless_failed ran) Storage) old new

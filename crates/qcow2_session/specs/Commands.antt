@@ -32,7 +32,7 @@ use Rattle.qcow2_session.specs.Commands.Facts.{CommandFacts}
 use Rattle.qcow2_session.specs.Commands.Help.{asked_text}
 use Rattle.qcow2_session.specs.Commands.Info.{info_facts}
 use Rattle.qcow2_session.specs.Commands.L2.{l2_command, l2_facts}
-use Rattle.qcow2_session.specs.Commands.Layout.{layout_facts}
+use Rattle.qcow2_session.specs.Commands.Layout.{layout_command, layout_facts}
 use Rattle.qcow2_session.specs.Commands.List.{list_facts}
 use Rattle.qcow2_session.specs.Commands.Map.{map_command, map_facts}
 use Rattle.qcow2_session.specs.Commands.Refcount.{refcount_command, refcount_facts}
@@ -49,7 +49,7 @@ command_by_name name image arguments =
     else if bytes_eq name (codes "map") then map_command arguments
     else if bytes_eq name (codes "at") then at_command arguments
     else if bytes_eq name (codes "tables") then command_alone command.Tables arguments
-    else if bytes_eq name (codes "layout") then command_alone command.Layout arguments
+    else if bytes_eq name (codes "layout") then layout_command arguments
     else if bytes_eq name (codes "refcount") then refcount_command arguments
     else if bytes_eq name (codes "check") then check_command image arguments
     else if bytes_eq name (codes "edit") then edit_command arguments
@@ -74,7 +74,7 @@ facts_of command.List = list_facts
 facts_of (command.Map format) = map_facts format
 facts_of (command.At guest_offset) = at_facts guest_offset.0
 facts_of command.Tables = tables_facts
-facts_of command.Layout = layout_facts
+facts_of (command.Layout form) = layout_facts form
 facts_of (command.Refcount clusters) = refcount_facts clusters
 facts_of (command.Check form) = check_facts form
 facts_of (command.Apply form edits) = apply_facts form edits

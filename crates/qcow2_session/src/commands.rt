@@ -33,12 +33,12 @@ pub use at::print_mapping_at;
 pub use check::{CheckForm, check_image, check_image_in_json, repair_and_check_image};
 pub use count::count_references;
 pub use edit::edit_entries;
-pub use explain::locate_fault;
 pub use info::print_info;
 pub use l2::{ClusterBits, list_l2_table};
-pub use layout::print_layout;
+pub use layout::{LayoutForm, print_layout};
 pub use list::list_tables;
 pub use map::{ExtentFormat, print_extents};
+pub use qcow2_explain::locate_fault;
 pub use refcount::print_counters;
 pub use report::report_fault;
 pub use running::{run, run_words};
@@ -64,8 +64,10 @@ pub enum Command {
     },
     /// `tables IMAGE`: where the header, the tables and the refcount blocks lie.
     Tables,
-    /// `layout IMAGE`: what each host cluster is, in runs.
-    Layout,
+    /// `layout IMAGE`, or `layout IMAGE svg`: what each host cluster is, in runs or as a picture.
+    Layout {
+        form: LayoutForm,
+    },
     /// `refcount IMAGE CLUSTER..`: the counters of host clusters.
     Refcount {
         clusters: Arguments<HostCluster>,
@@ -115,7 +117,7 @@ impl Command {
             "map" => map::parse(arguments),
             "at" => at::parse(arguments),
             "tables" => alone(Command::Tables, arguments),
-            "layout" => alone(Command::Layout, arguments),
+            "layout" => layout::parse(arguments),
             "refcount" => refcount::parse(alloc, arguments),
             "check" => check::parse(alloc, image, arguments),
             "apply" => apply::parse(alloc, arguments),
@@ -141,6 +143,14 @@ impl Command {
                     form: ApplyForm::Make,
                     ..
                 }
+        )
+    }
+
+    /// Whether the command reads all tables of its image. Over a file it reads them in pages.
+    pub fn reads_all_tables(&self) -> bool {
+        matches!(
+            self,
+            Command::List | Command::Map { .. } | Command::Layout { .. } | Command::Check { .. }
         )
     }
 

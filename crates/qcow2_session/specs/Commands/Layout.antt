@@ -1,5 +1,6 @@
 -- What does the command `layout` print?
-use Rattle.std.specs.Prelude.{◌≡◌, ◌⊎◌, ℕ, ◌+◌, true, false, List, [], ◌∷◌, ◌++◌, flat_map, None, Result, IfErr, IsErrOf, IsOkAnd, OnOk, codes}
+pub mod Picture
+use Rattle.std.specs.Prelude.{◌≡◌, ◌⊎◌, ℕ, ◌+◌, true, false, List, [], ◌∷◌, ◌++◌, flat_map, if◌then◌else◌, Bool, Option, Some, None, Result, IfErr, IsErrOf, IsOkAnd, OnOk, bytes_eq, codes}
 use Rattle.qcow2_base.specs.Storage.{Image, OnImage, ReadsFor}
 use Rattle.qcow2_base.specs.declared.fault.Fault.TheVariants.{Storage}
 use Rattle.qcow2_check.specs.Findings.{checked_tables}
@@ -13,8 +14,20 @@ use Rattle.qcow2_metadata.specs.Header.{HeaderRecord}
 use Rattle.qcow2_metadata.specs.Results.{IsFromOutside}
 use Rattle.qcow2_session.specs.Commands.Facts.{CommandFacts}
 use Rattle.qcow2_session.specs.Commands.Printing.{IsReadFault, OutputGets, OutputGetsPart, Run as Printed}
+use Rattle.qcow2_session.specs.Commands.Layout.Picture.{PrintsPicture}
 use Rattle.qcow2_session.specs.Commands.Tables.{pair_text}
+use Rattle.qcow2_session.specs.Commands.Words.{WordList}
 use Rattle.qcow2_session.specs.Lines.{offset_text}
+use Rattle.qcow2_session.specs.declared.commands.Command.{Command}
+use Rattle.qcow2_session.specs.declared.commands.Command.TheVariants as command
+use Rattle.qcow2_session.specs.declared.commands.layout.LayoutForm.{LayoutForm}
+use Rattle.qcow2_session.specs.declared.commands.layout.LayoutForm.TheVariants.{Lines, Svg}
+
+-- the command `layout` that the words after its image ask for
+abbrev pub layout_command : WordList → Option Command
+layout_command [] = Some (command.Layout Lines)
+layout_command (form ∷ []) = if bytes_eq form (codes "svg") then Some (command.Layout Svg) else None
+layout_command _ = None
 
 -- what a line says of a part of an image
 abbrev pub part_text : Part → List ℕ
@@ -60,22 +73,32 @@ abbrev pub PrintsSomeRuns : {A O : Type 0} → Printed A O → Image → ImageTa
 PrintsSomeRuns printed image tables = (runs : List Run) × (to : ℕ) × AreRunsOf tables image 0 runs to
     × OutputGetsPart printed (flat_map run_line runs)
 
--- a run prints the layout of an image with this header: all its runs, or nothing where its tables can't be read, or a beginning
+-- a run prints the layout of an image with this header in lines: all its runs, or nothing where its tables can't be read, or a beginning
 -- before a failed call or memory that runs out
-pub record PrintsLayout {A O : Type 0} (printed : Printed A O) (header : HeaderRecord) : Type 0 where
+pub record PrintsInLines {A O : Type 0} (printed : Printed A O) (header : HeaderRecord) : Type 0 where
   pub all : OnOk printed.answer (OnImage printed.old (λ bytes. IsOkAnd (checked_tables header bytes) (PrintsAllRuns printed bytes)))
   pub refused : IfErr printed.answer (λ fault. OnImage printed.old (λ bytes.
       (IsReadFault (checked_tables header bytes) printed fault × OutputGets printed [])
       ⊎ IsOkAnd (checked_tables header bytes) (λ tables. IsFromOutside fault × PrintsSomeRuns printed bytes tables)))
 
--- the facts of the command `layout`, which prints run by run
-abbrev pub layout_facts : CommandFacts
-layout_facts = record {
+-- a run prints a layout in this form
+abbrev pub PrintsLayout : {A O : Type 0} → LayoutForm → Printed A O → HeaderRecord → Type 0
+PrintsLayout Lines printed header = PrintsInLines printed header
+PrintsLayout Svg printed header = PrintsPicture printed header
+
+-- whether a form is printed run by run
+abbrev pub is_printed_in_turn : LayoutForm → Bool
+is_printed_in_turn Lines = true
+is_printed_in_turn Svg = false
+
+-- the facts of the command `layout`
+abbrev pub layout_facts : LayoutForm → CommandFacts
+layout_facts form = record {
   changes_image = false;
   loads_to_write = false;
-  prints_before_faults = true;
+  prints_before_faults = is_printed_in_turn form;
   has_verdict = false;
   cluster_bits = None;
   place_fault = None;
-  Ends = λ header run. PrintsLayout run header × ReadsFor (IsErrOf run.answer Storage) run.old run.new;
+  Ends = λ header run. PrintsLayout form run header × ReadsFor (IsErrOf run.answer Storage) run.old run.new;
 }

@@ -1,34 +1,73 @@
-//! The command `layout`: what each host cluster of an image is, run by run.
+//! The command `layout`: what each host cluster of an image is, run by run or as a picture.
 
-ghost use Rattle.std.specs.Prelude.{◌≡◌, ◌+◌, ◌≤◌, ◌++◌, IsErrOf, length};
+ghost use Rattle.std.specs.Prelude.{◌≡◌, ◌+◌, ◌≤◌, ◌++◌, IsErrOf, length, map, string_bytes};
 ghost use Rattle.qcow2_base.specs.Storage.{OnImage, ReadsFor};
 ghost use Rattle.qcow2_base.specs.declared.fault.Fault.TheVariants.{Storage as StorageFailed};
 ghost use Rattle.qcow2_layout.specs.Layout.{IsLayoutOf};
-ghost use Rattle.qcow2_session.specs.Commands.Layout.{PrintsLayout, PrintsRunsFrom, part_text, run_line};
-ghost use Rattle.qcow2_session.specs.Commands.Printing.{run_over};
+ghost use Rattle.qcow2_session.specs.Commands.Layout.{PrintsInLines, PrintsLayout, PrintsRunsFrom, layout_command, part_text, run_line};
+ghost use Rattle.qcow2_session.specs.Commands.Printing.{PrintsLast, run_over};
+ghost use Rattle.qcow2_session.specs.Commands.Words.{Parses};
+ghost use Rattle.qcow2_session.specs.declared.commands.layout.LayoutForm.TheVariants.{Svg};
 
+use super::Command;
 use super::tables::prepend_pair;
 use crate::lines::{LineBuffer, ToLine, print};
 use qcow2_base::{Fault, Storage};
 use qcow2_layout::{Layout, Part, Run};
 use qcow2_metadata::Header;
-use std::alloc::Global;
+use std::alloc::{AllocError, Global};
 use std::io::Write;
+
+mod picture;
+
+use picture::print_picture;
+
+/// How a layout is shown.
+#[derive(Clone, Copy, Debug, PartialEq, Eq)]
+pub enum LayoutForm {
+    /// A line for each run.
+    Lines,
+    /// A picture, as a file in SVG.
+    Svg,
+}
 
 /// Prints what each host cluster of an image with this header is, from cluster 0 up to the last one that is
 /// in use, in runs: a run's first cluster, how many it has, and what they are. Guest data has the guest
 /// offset of the first, and goes on in the guest's disk as in the image. Where a cluster has several uses,
 /// that of the header, a table or a block is printed, or else the one of the lowest guest offset.
 ///
-/// Returns the fault of `Layout::new` before any line. A fault after a line is 34 or 35. A failed write to
-/// `out` is the storage fault. Changes no byte of the image.
+/// As a picture it has at most 4096 squares, in rows of 64. Each stands for as many clusters, a power of two,
+/// and has the colour of what strikes most in them.
+///
+/// Returns the fault of `Layout::new` before any line. A fault after a line is 34 or 35, and comes before all
+/// of a picture. A failed write to `out` is the storage fault. Changes no byte of the image.
 pub fn print_layout<S: Storage, O: Write>(
+    alloc: Global,
+    image: &mut S,
+    header: &Header,
+    form: LayoutForm,
+    out: &mut O,
+) -> Result<(), Fault>
+    ensures prints { PrintsLayout form
+        (run_over S.state O.contents result image.old image.new out.old out.new) header.now }
+    ensures last { form ≡ Svg →
+        PrintsLast (run_over S.state O.contents result image.old image.new out.old out.new) }
+    ensures storage { ReadsFor (IsErrOf result StorageFailed) (S.state image.old) (S.state image.new) }
+{
+    match form {
+        LayoutForm::Lines => print_in_lines(alloc, image, header, out),
+        LayoutForm::Svg => print_picture(alloc, image, header, out),
+    }
+}
+
+// Prints the lines of all runs.
+fn print_in_lines<S: Storage, O: Write>(
     alloc: Global,
     image: &mut S,
     header: &Header,
     out: &mut O,
 ) -> Result<(), Fault>
-    ensures prints { PrintsLayout (run_over S.state O.contents result image.old image.new out.old out.new)
+    ensures prints { PrintsInLines (run_over S.state O.contents result image.old image.new out.old out.new)
         header.now }
     ensures storage { ReadsFor (IsErrOf result StorageFailed) (S.state image.old) (S.state image.new) }
 {
@@ -87,4 +126,16 @@ fn prepend_part(line: &mut LineBuffer, part: Part)
         Part::Leaked => line.prepend("leaked"),
         Part::Free => line.prepend("free"),
     }
+}
+
+/// What the words of the command `layout` ask for.
+pub(super) fn parse(arguments: &[String]) -> Option<Result<Command, AllocError>>
+    ensures { Parses result (layout_command (map string_bytes arguments.now)) }
+{
+    let form = match arguments {
+        [] => LayoutForm::Lines,
+        [word] if word.as_str() == "svg" => LayoutForm::Svg,
+        _ => return None,
+    };
+    Some(Ok(Command::Layout { form }))
 }

@@ -190,7 +190,7 @@ fn run_on_file<R: Files + AllocGlobal, O: Write>(
 {
     let mut file = FileStorage::open(rt, path, command.changes_image())?;
     refuse_far_clusters(rt, path, &mut file, command)?;
-    if !reads_all_tables(command) {
+    if !command.reads_all_tables() {
         return run_and_flush(rt.alloc(), &mut file, command, out);
     }
     let header = Header::load(rt.alloc(), &mut file, false)?;
@@ -220,14 +220,6 @@ fn refuse_far_clusters<R: Files + AllocGlobal>(
         Some(position) => Err(Fault::BadEdit(position)),
         None => Ok(()),
     }
-}
-
-// Whether a command reads all tables of its image.
-fn reads_all_tables(command: &Command) -> bool {
-    matches!(
-        command,
-        Command::List | Command::Map { .. } | Command::Layout | Command::Check { .. }
-    )
 }
 
 // Runs a command over an image, and flushes what it printed, also before a fault.
@@ -293,7 +285,7 @@ pub fn run<S: Storage, O: Write>(
             fine(print_mapping_at(alloc, image, &header, *guest_offset, out))
         }
         Command::Tables => fine(print_tables(alloc, image, &header, out)),
-        Command::Layout => fine(print_layout(alloc, image, &header, out)),
+        Command::Layout { form } => fine(print_layout(alloc, image, &header, *form, out)),
         Command::Refcount { clusters } => {
             fine(print_counters(alloc, image, &header, clusters.as_slice(), out))
         }

@@ -2,7 +2,7 @@ use Rattle.std.proofs.Common.{◌-◌, Ok}
 use Rattle.qcow2_base.specs.Format.{max_file_length}
 use Rattle.qcow2_base.specs.Storage.{OnImage, OnlyReads}
 use Rattle.qcow2_check.specs.Findings.{IsFindingsOf}
-use Rattle.qcow2_session.proofs.commands.explain.clusters.cluster_refusal.Given as goal
+use Rattle.qcow2_explain.proofs.clusters.cluster_refusal.Given as goal
 
 -- the reader reads the same image, of which no byte has changed
 abbrev pub invariant-loop-findings : goal.invariant-loop-findings

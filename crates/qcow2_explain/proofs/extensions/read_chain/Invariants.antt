@@ -1,5 +1,5 @@
 use Rattle.std.proofs.Common.{◌≡◌}
-use Rattle.qcow2_session.proofs.commands.explain.extensions.read_chain.Given as goal
+use Rattle.qcow2_explain.proofs.extensions.read_chain.Given as goal
 
 -- no byte of the image has changed
 abbrev pub invariant-loop : goal.invariant-loop

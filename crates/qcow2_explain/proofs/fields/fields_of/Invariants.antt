@@ -1,5 +1,5 @@
 use Rattle.std.proofs.Common.{◌≡◌}
-use Rattle.qcow2_session.proofs.commands.explain.fields.fields_of.Given as goal
+use Rattle.qcow2_explain.proofs.fields.fields_of.Given as goal
 
 -- no byte of the image has changed
 abbrev pub invariant-loop-row : goal.invariant-loop-row

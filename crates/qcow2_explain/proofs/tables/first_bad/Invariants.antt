@@ -1,5 +1,5 @@
 use Rattle.std.proofs.Common.{◌≡◌}
-use Rattle.qcow2_session.proofs.commands.explain.tables.first_bad.Given as goal
+use Rattle.qcow2_explain.proofs.tables.first_bad.Given as goal
 
 -- no byte of the image has changed
 abbrev pub invariant-loop-index : goal.invariant-loop-index

@@ -1,5 +1,5 @@
 use Rattle.std.proofs.Common.{◌≡◌}
-use Rattle.qcow2_session.proofs.commands.explain.tables.l2_refusal.Given as goal
+use Rattle.qcow2_explain.proofs.tables.l2_refusal.Given as goal
 
 -- no byte of the image has changed
 abbrev pub invariant-loop-l1_index : goal.invariant-loop-l1_index

@@ -3,7 +3,7 @@ use Rattle.std.proofs.lemmas.Result.{err_from_is_err_and}
 use Rattle.qcow2_image.proofs.LookupsLemmas.{reads-then_for}
 use Rattle.qcow2_layout.specs.Layout.{layout_tables}
 use Rattle.qcow2_session.proofs.LayoutLemmas.{layout-none, layout-printed}
-use Rattle.qcow2_session.proofs.commands.layout.print_layout.Goals as goal
+use Rattle.qcow2_session.proofs.commands.layout.print_in_lines.Goals as goal
 
 pub returns-in_err-layout-clause-prints : goal.returns-in_err-layout-clause-prints
 returns-in_err-layout-clause-prints g c =

@@ -3,7 +3,8 @@ use Rattle.std.proofs.KnownBytes.{Appends-trans}
 use Rattle.std.proofs.lemmas.Result.{err_from_is_err_and}
 use Rattle.qcow2_check.proofs.FindingsLemmas.{reads_twice}
 use Rattle.qcow2_layout.specs.Layout.{layout_tables}
-use Rattle.qcow2_session.proofs.LayoutLemmas.{end-known, run-known, run_lines-more, runs-end, runs_of-more, whole-part}
+use Rattle.qcow2_picture.proofs.ImageLemmas.{end-known, run-known}
+use Rattle.qcow2_session.proofs.LayoutLemmas.{run_lines-more, runs-end, runs_of-more, whole-part}
 use Rattle.qcow2_session.proofs.OutputLemmas.{part-after}
 use Rattle.qcow2_session.proofs.commands.layout.print_runs.Goals as goal
 

@@ -1,4 +1,5 @@
 use Rattle.std.proofs.Common.{refl}
+use Rattle.qcow2_session.proofs.PictureLemmas.{is-svg}
 use Rattle.qcow2_session.proofs.RunningLemmas.{last-with, runs-with}
 use Rattle.qcow2_session.proofs.VerdictLemmas.{fine-EndsApply, fine-Prints, fine-PrintsChange, fine-PrintsExtents, fine-PrintsLast, fine-PrintsLayout, fine-PrintsList, fine-PrintsText, fine-ReadsFor}
 use Rattle.qcow2_session.specs.Commands.{facts_of}
@@ -43,9 +44,15 @@ returns-in-Tables-clause-at_once g c = λ silent.
 pub returns-in-Layout-clause-runs : goal.returns-in-Layout-clause-runs
 returns-in-Layout-clause-runs g c = runs-with (facts_of c.args.command.now) c.in_ok-header.header _ _ c.in_ok-header.ensures
     (rw (c.in-Layout.is, c.fine-in-Layout.ensures.answer) (
-      fine-PrintsLayout c.print_layout.result _ _ _ _ _ _ c.print_layout.ensures.prints,
+      fine-PrintsLayout c.print_layout.result _ _ _ _ _ _ _ c.print_layout.ensures.prints,
       fine-ReadsFor c.print_layout.result _ _ c.print_layout.ensures.storage,
     ))
+
+pub returns-in-Layout-clause-at_once : goal.returns-in-Layout-clause-at_once
+returns-in-Layout-clause-at_once g c = λ silent.
+    last-with (facts_of c.args.command.now) c.in_ok-header.header _ _ c.in_ok-header.ensures
+    (rw c.fine-in-Layout.ensures.answer (fine-PrintsLast c.print_layout.result _ _ _ _ _
+    (c.print_layout.ensures.last (is-svg _ (rw c.in-Layout.is at silent)))))
 
 pub returns-in-Refcount-clause-runs : goal.returns-in-Refcount-clause-runs
 returns-in-Refcount-clause-runs g c = runs-with (facts_of c.args.command.now) c.in_ok-header.header _ _ c.in_ok-header.ensures

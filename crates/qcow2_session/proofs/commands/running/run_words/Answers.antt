@@ -1,7 +1,7 @@
 use Rattle.std.proofs.Common.{◌≡◌, Some, map, string_bytes, rules}
 use Rattle.qcow2_session.proofs.CommandsLemmas.{IfSome-none}
 use Rattle.qcow2_session.proofs.ExplainLemmas.{asked_is_not_explained}
-use Rattle.qcow2_session.proofs.HelpLemmas.{asked_is_no_command}
+use Rattle.qcow2_session.proofs.HelpLemmas.{asked_is_no_command, asked_status}
 use Rattle.qcow2_session.specs.Commands.{command_of}
 use Rattle.qcow2_session.specs.Commands.Explain.{explained_text}
 use Rattle.qcow2_session.specs.Commands.Help.{asked_text, text_of}
@@ -17,3 +17,8 @@ returns-in-Some-clause-text g c =
     let words = map string_bytes c.args.words.now in
     let asked : asked_text words ≡ Some (text_of c.in-Some.text) = search rules in
     (rw asked c.print_asked.ensures.text, IfSome-none _ (explained_text words) (asked_is_not_explained words (text_of c.in-Some.text) asked))
+
+pub returns-in-Some-clause-status : goal.returns-in-Some-clause-status
+returns-in-Some-clause-status g c =
+    let words = map string_bytes c.args.words.now in
+    (asked_status _ _ _ _ c.print_asked.ensures.text, IfSome-none _ (command_of words) (asked_is_no_command words (text_of c.in-Some.text) (search rules)))

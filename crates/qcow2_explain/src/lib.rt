@@ -1,0 +1,14 @@
+//! Where in an image a fault is: what `explain` says of a file.
+#![tactic(auto)]
+
+mod clusters;
+mod extensions;
+mod fields;
+mod files;
+mod lines;
+mod locks;
+mod places;
+mod refusals;
+mod tables;
+
+pub use lines::{fault_lines, locate_fault};
