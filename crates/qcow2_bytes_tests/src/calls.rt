@@ -2,8 +2,8 @@
 
 use qcow2_base::Fault;
 use qcow2_bytes::{
-    BadEntry, CheckTotals, CutShort, EntryMapping, ExtentFields, FindingFields, HeaderFields,
-    HostClusters, L2Pointer,
+    BadEntry, CheckTotals, CutShort, EditCounts, EditFields, EditRefusal, EntryMapping,
+    ExtentFields, FindingFields, HeaderFields, HostClusters, L2Pointer,
 };
 use std::alloc::Global;
 
@@ -60,6 +60,17 @@ pub(crate) fn settle_refcounts(
     gained: &[u64],
 ) -> Result<(), Fault> {
     qcow2_bytes::settle_refcounts(alloc, bytes, refcount_order, block_index, freed, gained)
+}
+
+pub(crate) fn edit_l2_table(
+    alloc: Global,
+    bytes: &mut [u8],
+    fields: &HeaderFields,
+    edits: &[EditFields],
+    freed: &mut [HostClusters],
+    gained: &mut [u64],
+) -> Result<EditCounts, EditRefusal> {
+    qcow2_bytes::edit_l2_table(alloc, bytes, fields, edits, freed, gained)
 }
 
 pub(crate) fn l2_extents(

@@ -6,6 +6,8 @@ mod calls;
 #[cfg(test)]
 mod check;
 #[cfg(test)]
+mod edits;
+#[cfg(test)]
 mod entries;
 #[cfg(test)]
 mod extents;

@@ -9,4 +9,4 @@ mod tables;
 pub use files::{WatchedFile, WatchedFiles};
 pub use output::WatchedOutput;
 pub use progress::Progress;
-pub use tables::l2_offsets;
+pub use tables::{WatchedTable, l2_tables};

@@ -1,5 +1,6 @@
 //! The line on how far a command is.
 
+use super::tables::WatchedTable;
 use std::alloc::Global;
 use std::cell::Cell;
 use std::io::Write;
@@ -14,25 +15,32 @@ const PAUSE: u64 = 100;
 // Goes to the begin of a terminal's line, and wipes it.
 const WIPE: &str = "\r\x1b[K";
 
-/// How far a command is that reads an image's L2 tables: how many of them it has begun to read. Two seconds
-/// after the start a line says it, which is drawn anew at most ten times a second.
+/// How far a command is that reads an image's L2 tables: how many of them it has begun to read, in how many
+/// passes over all. Two seconds after the start a line says it, which is drawn anew at most ten times a
+/// second.
 #[derive(Drop)]
 pub struct Progress<'a, C, E> {
     alloc: Global,
     clock: &'a C,
     terminal: E,
-    tables: &'a [u64],
+    tables: &'a [WatchedTable],
     // When a line may be drawn, if ever.
     next: Cell<Option<Instant>>,
+    pass: Cell<u64>,
     begun: Cell<u64>,
     is_shown: Cell<bool>,
     is_mid_line: Cell<bool>,
 }
 
 impl<'a, C: Clock, E: Write + Copy> Progress<'a, C, E> {
-    /// Of a command that begins now, and of an image whose L2 tables begin at these offsets, in their order.
+    /// Of a command that begins now, and of an image with these L2 tables, in the order of their offsets.
     /// Without any nothing is ever drawn.
-    pub fn new(alloc: Global, clock: &'a C, terminal: E, tables: &'a [u64]) -> Progress<'a, C, E> {
+    pub fn new(
+        alloc: Global,
+        clock: &'a C,
+        terminal: E,
+        tables: &'a [WatchedTable],
+    ) -> Progress<'a, C, E> {
         Progress {
             alloc,
             clock,
@@ -43,6 +51,7 @@ impl<'a, C: Clock, E: Write + Copy> Progress<'a, C, E> {
             } else {
                 later(clock, PATIENCE)
             }),
+            pass: Cell::new(1),
             begun: Cell::new(0),
             is_shown: Cell::new(false),
             is_mid_line: Cell::new(false),
@@ -61,14 +70,30 @@ impl<'a, C: Clock, E: Write + Copy> Progress<'a, C, E> {
         if self.next.get().is_none() {
             return;
         }
-        let before = self.tables.partition_point(|table| *table < first);
-        let after = self.tables.partition_point(|table| *table < end);
-        let begun = self.begun.get();
-        self.begun
-            .set(begun.saturating_add(after.saturating_sub(before) as u64));
+        let start = self.tables.partition_point(|table| table.offset < first);
+        for table in self.tables.iter().skip(start) {
+            if table.offset >= end {
+                break;
+            }
+            self.begin(table);
+        }
         if self.is_time() {
             self.draw();
         }
+    }
+
+    // Counts a table whose begin is read. Where all were begun in this pass, it is the first of the next.
+    fn begin(&self, table: &WatchedTable) {
+        let all = self.tables.len() as u64;
+        if table.pass.get() == self.pass.get() {
+            if self.begun.get() < all {
+                return;
+            }
+            self.pass.set(self.pass.get().saturating_add(1));
+            self.begun.set(0);
+        }
+        table.pass.set(self.pass.get());
+        self.begun.set(self.begun.get().saturating_add(1));
     }
 
     // Other lines are written to the same terminal. No line is drawn into one that isn't whole.
@@ -88,18 +113,14 @@ impl<'a, C: Clock, E: Write + Copy> Progress<'a, C, E> {
 
     // Draws the line. Where memory runs out there is none.
     fn draw(&self) {
-        let (begun, all) = (self.begun.get(), self.tables.len() as u64);
-        let Some(last) = begun.checked_sub(1) else {
+        let (begun, all, pass) = (self.begun.get(), self.tables.len(), self.pass.get());
+        if begun == 0 {
             return;
-        };
-        let (Some(pass), Some(index)) = (last.checked_div(all), last.checked_rem(all)) else {
-            return;
-        };
-        let (pass, table) = (pass.saturating_add(1), index.saturating_add(1));
+        }
         let line = if pass == 1 {
-            format!(in self.alloc; "{WIPE}qmeta: table {table} of {all}")
+            format!(in self.alloc; "{WIPE}qmeta: table {begun} of {all}")
         } else {
-            format!(in self.alloc; "{WIPE}qmeta: table {table} of {all}, pass {pass}")
+            format!(in self.alloc; "{WIPE}qmeta: table {begun} of {all}, pass {pass}")
         };
         if let Ok(line) = line {
             self.is_shown.set(true);

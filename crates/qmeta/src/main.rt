@@ -3,13 +3,21 @@
 
 use qcow2_base::Fault;
 use qcow2_locks::{HeldImage, hold_alone};
-use qcow2_progress::{Progress, WatchedFiles, WatchedOutput, l2_offsets};
+use qcow2_progress::{Progress, WatchedFiles, WatchedOutput, WatchedTable, l2_tables};
 use qcow2_session::Command;
 use std::fs::File;
-use std::io;
 use std::io::{BufWriter, ErrorKind, IsTerminal};
+use std::os::unix::fs::FileTypeExt;
 use std::process::ExitCode;
 use std::rt::Files;
+use std::{fs, io};
+
+// What words ask for, of an image.
+#[derive(Drop)]
+struct Asked<'a> {
+    command: Command,
+    path: &'a str,
+}
 
 fn main(rt: HostRuntime) -> ExitCode {
     ExitCode::from(match run(&rt) {
@@ -25,13 +33,14 @@ fn run(rt: &HostRuntime) -> Result<u8, Fault> {
         return Err(Fault::Storage);
     };
     let words = words_of(rt)?;
-    let _held = hold_image(rt, words.as_slice())?;
-    let tables = watched_tables(rt, words.as_slice());
+    let asked = asked_by(rt, words.as_slice())?;
+    let _held = hold_image(rt, &asked)?;
+    let tables = watched_tables(rt, &asked);
     run_watched(rt, words.as_slice(), tables.as_slice())
 }
 
-// Runs words, and tells at a terminal how far it is with these tables of the image.
-fn run_watched(rt: &HostRuntime, words: &[String], tables: &[u64]) -> Result<u8, Fault> {
+// Runs words, and says at a terminal how far it is with these tables of the image.
+fn run_watched(rt: &HostRuntime, words: &[String], tables: &[WatchedTable]) -> Result<u8, Fault> {
     let progress = Progress::new(rt.alloc(), rt, rt.stderr(), tables);
     let files = WatchedFiles::new(rt, &progress);
     let out = WatchedOutput::new(rt.stdout(), &progress, rt.stdout().is_terminal());
@@ -42,24 +51,6 @@ fn run_watched(rt: &HostRuntime, words: &[String], tables: &[u64]) -> Result<u8,
     let status = qcow2_session::run_words(&files, words, &mut out, &mut err);
     progress.wipe();
     Ok(status)
-}
-
-// Where the L2 tables begin whose reads are told of: those of the image, where the words ask for a command
-// that reads all, and standard error is a terminal. None where they can't be read, as the command will say.
-fn watched_tables(rt: &HostRuntime, words: &[String]) -> Vec<u64> {
-    let none = Vec::new(rt.alloc());
-    let [name, image, arguments @ ..] = words else {
-        return none;
-    };
-    if !rt.stderr().is_terminal() {
-        return none;
-    }
-    match Command::parse(rt.alloc(), name.as_str(), image.as_str(), arguments) {
-        Some(Ok(command)) if command.reads_all_tables() => {
-            l2_offsets(rt, image.as_str()).unwrap_or(none)
-        }
-        _ => none,
-    }
 }
 
 // Files that nothing can be written to. While they are held, no file that is opened later gets descriptor 0,
@@ -82,14 +73,45 @@ fn words_of(rt: &HostRuntime) -> Result<Vec<String>, Fault> {
     }
 }
 
-// Holds the image where the words ask for a command that changes it. Other words are looked at later.
-fn hold_image(rt: &HostRuntime, words: &[String]) -> Result<Option<HeldImage>, Fault> {
+// The command that words ask for, if they ask for one. Other words are looked at later.
+fn asked_by<'a>(rt: &HostRuntime, words: &'a [String]) -> Result<Option<Asked<'a>>, Fault> {
     let [name, image, arguments @ ..] = words else {
         return Ok(None);
     };
-    match Command::parse(rt.alloc(), name.as_str(), image.as_str(), arguments) {
-        Some(Ok(command)) if command.changes_image() => Ok(Some(hold_alone(rt, image.as_str())?)),
+    let path = image.as_str();
+    match Command::parse(rt.alloc(), name.as_str(), path, arguments) {
+        Some(Ok(command)) => Ok(Some(Asked { command, path })),
         Some(Err(error)) => Err(Fault::from(error)),
+        None => Ok(None),
+    }
+}
+
+// Holds the image of a command that changes it.
+fn hold_image(rt: &HostRuntime, asked: &Option<Asked<'_>>) -> Result<Option<HeldImage>, Fault> {
+    match asked {
+        Some(asked) if asked.command.changes_image() => Ok(Some(hold_alone(rt, asked.path)?)),
         _ => Ok(None),
     }
+}
+
+// The L2 tables whose reads are told of: those of the image of a command that reads all, at a terminal. None
+// where they can't be read, as the command will say.
+fn watched_tables(rt: &HostRuntime, asked: &Option<Asked<'_>>) -> Vec<WatchedTable> {
+    let none = Vec::new(rt.alloc());
+    match asked {
+        Some(asked) if asked.command.reads_all_tables() && has_terminal_alone(rt) => {
+            l2_tables(rt, asked.path).unwrap_or(none)
+        }
+        _ => none,
+    }
+}
+
+// Whether standard error is a terminal, and standard output goes to no other program, which may write there
+// too.
+fn has_terminal_alone(rt: &HostRuntime) -> bool {
+    rt.stderr().is_terminal()
+        && match fs::metadata(rt, "/proc/self/fd/1") {
+            Ok(output) => !output.file_type().is_fifo() && !output.file_type().is_socket(),
+            Err(_) => false,
+        }
 }
