@@ -105,7 +105,7 @@ of `header`, `l1`, `l2`, `refcount-table`, `refcount-block`, `data OFFSET` with 
 cluster, `compressed`, `leaked`, `free`. With `svg` it prints a picture with a legend, of at most 200 kB, for
 a browser. Only reads.
 
-Status 0: printed. 1: a fault; only 34 and 35 come after a line. Faults: those of `check`.
+Status 0: printed. 1: a fault; only 34 and 35 come after a line. Faults: those of `check` without `repair`.
 
   $ qmeta layout disk.qcow2 svg > disk.svg
 ";

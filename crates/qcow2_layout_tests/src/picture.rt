@@ -27,11 +27,15 @@ macro_rules! shapes {
 
 const TABLES: &[Shape] = shapes! { 0 + 2 10, 2 + 2 11, 4 + 1 10 };
 
-// An eighth of the disk is 8193 bytes long, so that the last is a little shorter.
+// An eighth of the disk is 8192 bytes long.
 const SMALL: &[Painted<'static>] = rows! { Painted:
     { name: "a cluster of data", changes: &[], shapes: shapes! { 5 + 1 1 } },
     { name: "data in a row, in two eighths of the disk",
-        changes: &[(L2_TABLE + 128, 3072), (L2_TABLE + 136, 3584)], shapes: shapes! { 5 + 2 1, 7 + 1 2 } },
+        changes: &[(L2_TABLE + 120, 3072), (L2_TABLE + 128, 3584)], shapes: shapes! { 5 + 2 1, 7 + 1 2 } },
+    { name: "a disk of eight bytes more", changes: &[(HEADER + 24, 65544), (L2_TABLE + 128, 3072)],
+        shapes: shapes! { 5 + 2 1 } },
+    { name: "a disk of eight clusters", changes: &[(HEADER + 24, 4096), (L2_TABLE + 56, 3072)],
+        shapes: shapes! { 5 + 1 4, 6 + 1 8 } },
     { name: "data of the last eighth that the table maps", changes: &[(L2_TABLE + 504, 3072)],
         shapes: shapes! { 5 + 1 1, 6 + 1 4 } },
     { name: "data past the end of the disk", changes: &[(HEADER + 24, 512)], shapes: shapes! { 5 + 1 8 } },

@@ -1,5 +1,5 @@
 -- How does the layout of an image become a picture of squares?
-use Rattle.std.specs.Prelude.{◌≡◌, ◌⊎◌, ℕ, ◌+◌, ◌-◌, ◌*◌, ◌/◌, ◌%◌, ◌^◌, ◌<◌, ◌≤◌, min, Bool, ◌==◌, not, ◌||◌, List, [], ◌∷◌, flat_map, if◌then◌else◌, drop, length, slice_index, take}
+use Rattle.std.specs.Prelude.{◌≡◌, ◌⊎◌, ℕ, ◌+◌, ◌-◌, ◌*◌, ◌/◌, ◌%◌, ◌^◌, ◌<◌, ◌≤◌, max, min, Bool, ◌==◌, not, ◌||◌, List, [], ◌∷◌, flat_map, if◌then◌else◌, drop, length, slice_index, take}
 use Rattle.std.specs.Int.{div_ceil}
 use Rattle.std.specs.List.{range_with_len}
 use Rattle.qcow2_base.specs.Storage.{Image, IsPowerOfTwo}
@@ -15,7 +15,7 @@ use Rattle.qcow2_picture.specs.declared.picture.Shape.{Shape}
 -- this size, compressed data, header and mapping tables, refcounts, and leaked clusters
 abbrev pub shade_of : ℕ → Part → ℕ
 shade_of size Free = 0
-shade_of size (Data offset) = 1 + min 7 (offset.0 / (size / 8 + 1))
+shade_of size (Data offset) = 1 + min 7 (offset.0 / max 1 (div_ceil size 8))
 shade_of size Compressed = 9
 shade_of size Header = 10
 shade_of size L1Table = 10

@@ -5,6 +5,7 @@ ghost use Rattle.qcow2_base.specs.Format.{max_file_length};
 ghost use Rattle.qcow2_layout.specs.Layout.{moved_part};
 ghost use Rattle.qcow2_picture.specs.Picture.{GrowsScale, HaveShades, IsScale, Shades, all_squares};
 ghost use Rattle.qcow2_picture.specs.Picture as spec;
+ghost use Rattle.std.specs.Int.{div_ceil};
 
 use qcow2_base::ClusterCount;
 use qcow2_layout::{Part, Run};
@@ -195,10 +196,10 @@ fn shade_of(part: Part, bytes: u64, size: u64) -> u8
 // Which eighth of a disk an offset is in that is that many bytes after another one. The last goes on past the
 // disk's end.
 fn eighth_of(offset: u64, bytes: u64, size: u64) -> u8
-    ensures { result ≡ min 7 ((offset + bytes) / (size / 8 + 1)) }
+    ensures { result ≡ min 7 ((offset + bytes) / max 1 (div_ceil size 8)) }
 {
     match offset.checked_add(bytes) {
-        Some(offset) => (offset / (size / 8 + 1)).min(7) as u8,
+        Some(offset) => (offset / size.div_ceil(8).max(1)).min(7) as u8,
         None => 7,
     }
 }

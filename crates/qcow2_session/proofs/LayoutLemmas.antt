@@ -1,8 +1,6 @@
-use Rattle.std.proofs.Common.{◌≡◌, ◌≢◌, ◌⊎◌, ℕ, ◌+◌, ◌≤◌, List, [], ◌∷◌, ◌++◌, append-nil, flat_map, length, Option, Result, Ok, Err, IsTrue, inl, inr, refl, sym, subst, ◌∙◌, arith}
-use Rattle.std.specs.Io.KnownBytes.{Appends}
+use Rattle.std.proofs.Common.{◌≡◌, ◌≢◌, ◌⊎◌, ℕ, ◌+◌, ◌≤◌, List, [], ◌∷◌, ◌++◌, append-nil, flat_map, Result, Ok, Err, IsTrue, inl, inr, refl, subst, ◌∙◌, arith}
 use Rattle.std.proofs.KnownBytes.{Appends-nil}
 use Rattle.std.proofs.lemmas.Grind.{flat_map-append}
-use Rattle.std.proofs.lemmas.List.{take_all}
 use Rattle.qcow2_base.specs.Storage.{Image, StorageState}
 use Rattle.qcow2_base.specs.declared.fault.Fault.{Fault}
 use Rattle.qcow2_base.specs.declared.fault.Fault.TheVariants.{NoMemory, Storage}
@@ -13,14 +11,10 @@ use Rattle.qcow2_layout.specs.Parts.{part_at, taken_end}
 use Rattle.qcow2_layout.specs.declared.parts.Run.{Run}
 use Rattle.qcow2_picture.proofs.ImageLemmas.{IsRunOf}
 use Rattle.qcow2_metadata.specs.Header.{HeaderRecord}
-use Rattle.qcow2_session.proofs.OutputLemmas.{part_taken}
+use Rattle.qcow2_metadata.specs.Results.{IsFromOutside}
 use Rattle.qcow2_session.proofs.PrintingLemmas.{read_fault-of, run_between}
 use Rattle.qcow2_session.specs.Commands.Layout.{AreRunsOf, AreRunsTo, PrintsAllRuns, PrintsInLines, PrintsRunsFrom, PrintsSomeRuns, run_line}
-use Rattle.qcow2_session.specs.Commands.Printing.{AppendsPart, OutputBytes, OutputGets, OutputGetsPart, Run as Printed}
-
--- all of some bytes are a beginning of them
-pub whole-part : (a b : OutputBytes) (bytes : List ℕ) → Appends a b bytes → AppendsPart a b bytes
-whole-part a b bytes all = part_taken a b bytes (length bytes) (rw (take_all (length bytes) bytes (omega arith)) all)
+use Rattle.qcow2_session.specs.Commands.Printing.{IsOutputFault, OutputBytes, OutputGets, OutputGetsPart, Run as Printed}
 
 -- runs, and one more
 runs-more : (cb : ℕ) (parts : Parts) (end from to : ℕ) (runs : List Run) (run : Run) → AreRunsTo cb parts end from runs to → IsRun cb parts end to run
@@ -50,31 +44,46 @@ all-known printed tables now image mid at same begun bytes is =
     subst (λ (t : ImageTables). PrintsAllRuns printed image t) same (subst (λ (b : Image). PrintsAllRuns printed b now) bytes
     (subst (λ (n : ℕ). (runs : List Run) × AreRunsOf now mid n runs (taken_end now mid) × OutputGets printed (flat_map run_line runs)) begun is))
 
-some-known : {A O : Type 0} (printed : Printed A O) (tables now : ImageTables) (image mid : Image) (at : ℕ) → now ≡ tables → at ≡ 0 → mid ≡ image
-    → (runs : List Run) × (to : ℕ) × AreRunsOf now mid at runs to × OutputGetsPart printed (flat_map run_line runs) → PrintsSomeRuns printed image tables
-some-known printed tables now image mid at same begun bytes is =
-    subst (λ (t : ImageTables). PrintsSomeRuns printed image t) same (subst (λ (b : Image). PrintsSomeRuns printed b now) bytes
-    (subst (λ (n : ℕ). (runs : List Run) × (to : ℕ) × AreRunsOf now mid n runs to × OutputGetsPart printed (flat_map run_line runs)) begun is))
+-- some runs from a cluster on are printed
+abbrev SomeRunsFrom : {A O : Type 0} → ℕ → Fault → Printed A O → Image → ImageTables → Type 0
+SomeRunsFrom at fault printed image tables = (runs : List Run) × (to : ℕ) × AreRunsOf tables image at runs to
+    × ((IsFromOutside fault × OutputGets printed (flat_map run_line runs))
+    ⊎ (IsOutputFault printed fault × OutputGetsPart printed (flat_map run_line runs)))
+
+some-known : {A O : Type 0} (fault : Fault) (printed : Printed A O) (tables now : ImageTables) (image mid : Image) (at : ℕ) → now ≡ tables → at ≡ 0 → mid ≡ image
+    → SomeRunsFrom at fault printed mid now → PrintsSomeRuns fault printed image tables
+some-known fault printed tables now image mid at same begun bytes is =
+    subst (λ (t : ImageTables). PrintsSomeRuns fault printed image t) same (subst (λ (b : Image). PrintsSomeRuns fault printed b now) bytes
+    (subst (λ (n : ℕ). SomeRunsFrom n fault printed mid now) begun is))
+
+-- how a print ends that didn't print all lines: it is the same over calls of the image before it, of which none failed
+abbrev EndsEarly : {A O : Type 0} → Fault → Printed A O → List ℕ → Type 0
+EndsEarly fault printed lines = (IsFromOutside fault × OutputGets printed lines) ⊎ (IsOutputFault printed fault × OutputGetsPart printed lines)
+
+ends-over : (A : Type 0) {O : Type 0} (fault : Fault) (lines : List ℕ) (contents : O → OutputBytes) (old mid new : StorageState) (a c : O) → mid.failures ≡ old.failures
+    → EndsEarly {A = A} fault (run_between contents (Err fault) mid new a c) lines → EndsEarly {A = A} fault (run_between contents (Err fault) old new a c) lines
+ends-over A fault lines contents old mid new a c calm (inl outside) = inl outside
+ends-over A fault lines contents old mid new a c calm (inr output) = inr ((output.0.0, output.0.1 ∙ calm), output.1)
 
 -- what is printed of an image's runs is its layout, after its tables were read
 pub layout-printed : {A O : Type 0} (answer : Result A Fault) (header : HeaderRecord) (tables : ImageTables) (reader : LayoutState) (contents : O → OutputBytes)
     (old mid new : StorageState) (a c : O) → layout_tables reader ≡ tables → (IsTrue old.tells → checked_tables header old.byte_at ≡ Ok tables) → reader.position ≡ 0
-    → mid.byte_at ≡ old.byte_at → mid.tells ≡ old.tells → PrintsRunsFrom (run_between contents answer mid new a c) reader
+    → mid.byte_at ≡ old.byte_at → mid.tells ≡ old.tells → mid.failures ≡ old.failures → PrintsRunsFrom (run_between contents answer mid new a c) reader
     → PrintsInLines (run_between contents answer old new a c) header
-layout-printed {A = A} (Ok done) header tables reader contents old mid new a c same read begun bytes tells printed = record {
+layout-printed {A = A} (Ok done) header tables reader contents old mid new a c same read begun bytes tells calm printed = record {
   all = λ told.
       let here = all-known {A = A} (run_between contents (Ok done) old new a c) tables (layout_tables reader) old.byte_at mid.byte_at reader.position same begun bytes
       (printed.all (tells ∙ told)) in
       rw (read told) here;
   refused = tt;
 }
-layout-printed {A = A} (Err fault) header tables reader contents old mid new a c same read begun bytes tells printed = record {
+layout-printed {A = A} (Err fault) header tables reader contents old mid new a c same read begun bytes tells calm printed = record {
   all = tt;
   refused = λ told.
       let part = printed.some (tells ∙ told) in
-      let here = some-known {A = A} (run_between contents (Err fault) old new a c) tables (layout_tables reader) old.byte_at mid.byte_at reader.position same begun bytes
-      (part.1, part.2, part.3, part.4) in
-      inr (rw (read told) (part.0, here));
+      let here = some-known {A = A} fault (run_between contents (Err fault) old new a c) tables (layout_tables reader) old.byte_at mid.byte_at reader.position same begun bytes
+      (part.0, part.1, part.2, ends-over A fault (flat_map run_line part.0) contents old mid new a c calm part.3) in
+      inr (rw (read told) here);
 }
 
 -- tables that can't be loaded: nothing is printed

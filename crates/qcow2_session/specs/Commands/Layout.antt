@@ -2,6 +2,7 @@
 pub mod Picture
 use Rattle.std.specs.Prelude.{◌≡◌, ◌⊎◌, ℕ, ◌+◌, true, false, List, [], ◌∷◌, ◌++◌, flat_map, if◌then◌else◌, Bool, Option, Some, None, Result, IfErr, IsErrOf, IsOkAnd, OnOk, bytes_eq, codes}
 use Rattle.qcow2_base.specs.Storage.{Image, OnImage, ReadsFor}
+use Rattle.qcow2_base.specs.declared.fault.Fault.{Fault}
 use Rattle.qcow2_base.specs.declared.fault.Fault.TheVariants.{Storage}
 use Rattle.qcow2_check.specs.Findings.{checked_tables}
 use Rattle.qcow2_check.specs.Uses.{ImageTables}
@@ -13,7 +14,7 @@ use Rattle.qcow2_layout.specs.declared.parts.Run.{Run}
 use Rattle.qcow2_metadata.specs.Header.{HeaderRecord}
 use Rattle.qcow2_metadata.specs.Results.{IsFromOutside}
 use Rattle.qcow2_session.specs.Commands.Facts.{CommandFacts}
-use Rattle.qcow2_session.specs.Commands.Printing.{IsReadFault, OutputGets, OutputGetsPart, Run as Printed}
+use Rattle.qcow2_session.specs.Commands.Printing.{IsOutputFault, IsReadFault, OutputGets, OutputGetsPart, Run as Printed}
 use Rattle.qcow2_session.specs.Commands.Layout.Picture.{PrintsPicture}
 use Rattle.qcow2_session.specs.Commands.Tables.{pair_text}
 use Rattle.qcow2_session.specs.Commands.Words.{WordList}
@@ -54,32 +55,34 @@ AreRunsTo cb parts end from (run ∷ runs) to = IsRun cb parts end from run × A
 abbrev pub AreRunsOf : ImageTables → Image → ℕ → List Run → ℕ → Type 0
 AreRunsOf tables image = AreRunsTo tables.header.v2.cluster_bits (part_at tables image) (taken_end tables image)
 
--- a run prints an image's runs from a reader's cluster on: all of them after `Ok`. A fault after these began is that of a failed
--- call or of memory, and the output got a beginning of their lines
+-- a run prints an image's runs from a reader's cluster on: all of them after `Ok`. Else a call failed or memory ran out, and the
+-- output got the lines of some; or it failed itself, and got a beginning of some lines
 pub record PrintsRunsFrom {A O : Type 0} (printed : Printed A O) (reader : LayoutState) : Type 0 where
   pub all : OnOk printed.answer (OnImage printed.old (λ bytes. (runs : List Run)
       × AreRunsOf (layout_tables reader) bytes reader.position runs (taken_end (layout_tables reader) bytes)
       × OutputGets printed (flat_map run_line runs)))
-  pub some : IfErr printed.answer (λ fault. OnImage printed.old (λ bytes. IsFromOutside fault × (runs : List Run) × (to : ℕ)
-      × AreRunsOf (layout_tables reader) bytes reader.position runs to × OutputGetsPart printed (flat_map run_line runs)))
+  pub some : IfErr printed.answer (λ fault. OnImage printed.old (λ bytes. (runs : List Run) × (to : ℕ)
+      × AreRunsOf (layout_tables reader) bytes reader.position runs to
+      × ((IsFromOutside fault × OutputGets printed (flat_map run_line runs))
+      ⊎ (IsOutputFault printed fault × OutputGetsPart printed (flat_map run_line runs)))))
 
 -- the output got the lines of all runs of an image with these tables
 abbrev pub PrintsAllRuns : {A O : Type 0} → Printed A O → Image → ImageTables → Type 0
 PrintsAllRuns printed image tables = (runs : List Run) × AreRunsOf tables image 0 runs (taken_end tables image)
     × OutputGets printed (flat_map run_line runs)
 
--- or a beginning of those of its first runs
-abbrev pub PrintsSomeRuns : {A O : Type 0} → Printed A O → Image → ImageTables → Type 0
-PrintsSomeRuns printed image tables = (runs : List Run) × (to : ℕ) × AreRunsOf tables image 0 runs to
-    × OutputGetsPart printed (flat_map run_line runs)
+-- the output got those of its first runs, where a call failed or memory ran out, or a beginning of them, where it failed itself
+abbrev pub PrintsSomeRuns : {A O : Type 0} → Fault → Printed A O → Image → ImageTables → Type 0
+PrintsSomeRuns fault printed image tables = (runs : List Run) × (to : ℕ) × AreRunsOf tables image 0 runs to
+    × ((IsFromOutside fault × OutputGets printed (flat_map run_line runs))
+    ⊎ (IsOutputFault printed fault × OutputGetsPart printed (flat_map run_line runs)))
 
--- a run prints the layout of an image with this header in lines: all its runs, or nothing where its tables can't be read, or a beginning
--- before a failed call or memory that runs out
+-- a run prints the layout of an image with this header in lines: all its runs, or nothing where its tables can't be read, or some
 pub record PrintsInLines {A O : Type 0} (printed : Printed A O) (header : HeaderRecord) : Type 0 where
   pub all : OnOk printed.answer (OnImage printed.old (λ bytes. IsOkAnd (checked_tables header bytes) (PrintsAllRuns printed bytes)))
   pub refused : IfErr printed.answer (λ fault. OnImage printed.old (λ bytes.
       (IsReadFault (checked_tables header bytes) printed fault × OutputGets printed [])
-      ⊎ IsOkAnd (checked_tables header bytes) (λ tables. IsFromOutside fault × PrintsSomeRuns printed bytes tables)))
+      ⊎ IsOkAnd (checked_tables header bytes) (PrintsSomeRuns fault printed bytes)))
 
 -- a run prints a layout in this form
 abbrev pub PrintsLayout : {A O : Type 0} → LayoutForm → Printed A O → HeaderRecord → Type 0

@@ -3,6 +3,7 @@ use Rattle.std.proofs.lemmas.Result.{err_from_is_err_and}
 use Rattle.qcow2_image.proofs.LookupsLemmas.{reads-then_for}
 use Rattle.qcow2_layout.specs.Layout.{layout_tables}
 use Rattle.qcow2_session.proofs.LayoutLemmas.{layout-none, layout-printed}
+use Rattle.qcow2_session.proofs.PrintingLemmas.{reads-calm}
 use Rattle.qcow2_session.proofs.commands.layout.print_in_lines.Goals as goal
 
 pub returns-in_err-layout-clause-prints : goal.returns-in_err-layout-clause-prints
@@ -15,7 +16,8 @@ returns-clause-prints g c =
     let reads = c.in_ok-layout.ensures.reads.storage in
     let layout = c.in_ok-layout.layout in
     layout-printed _ c.args.header.now (layout_tables layout) layout _ (g.S.Storage.state c.args.image.now) _ _ _ _ refl
-    (λ told. c.in_ok-layout.ensures.reads.exact told) c.in_ok-layout.ensures.begun.1 reads.bytes reads.device.tells c.print_runs.ensures.prints
+    (λ told. c.in_ok-layout.ensures.reads.exact told) c.in_ok-layout.ensures.begun.1 reads.bytes reads.device.tells (reads-calm layout _ _ reads)
+    c.print_runs.ensures.prints
 
 pub returns-clause-storage : goal.returns-clause-storage
 returns-clause-storage g c =

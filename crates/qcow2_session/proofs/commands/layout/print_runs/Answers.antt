@@ -1,11 +1,12 @@
-use Rattle.std.proofs.Common.{◌∷◌, ◌++◌, [], inr, ap, rules, ◌∙◌}
+use Rattle.std.proofs.Common.{◌∷◌, ◌++◌, [], inl, inr, ap, rules, ◌∙◌}
 use Rattle.std.proofs.KnownBytes.{Appends-trans}
 use Rattle.std.proofs.lemmas.Result.{err_from_is_err_and}
 use Rattle.qcow2_check.proofs.FindingsLemmas.{reads_twice}
 use Rattle.qcow2_layout.specs.Layout.{layout_tables}
 use Rattle.qcow2_picture.proofs.ImageLemmas.{end-known, run-known}
-use Rattle.qcow2_session.proofs.LayoutLemmas.{run_lines-more, runs-end, runs_of-more, whole-part}
+use Rattle.qcow2_session.proofs.LayoutLemmas.{run_lines-more, runs-end, runs_of-more}
 use Rattle.qcow2_session.proofs.OutputLemmas.{part-after}
+use Rattle.qcow2_session.proofs.PrintingLemmas.{reads-calm}
 use Rattle.qcow2_session.proofs.commands.layout.print_runs.Goals as goal
 
 pub returns-in_err-run-clause-prints : goal.returns-in_err-run-clause-prints
@@ -15,11 +16,10 @@ returns-in_err-run-clause-prints g c =
     rw (exit.1, exit.2) (record {
       all = tt;
       some = λ told. let printed = kept.printed told in (
-        c.in_err-run.ensures.fault.1 (rw kept.storage.device.tells told),
         printed.0,
         c.loop-run.layout.position,
         printed.1,
-        whole-part _ _ _ printed.3,
+        inl (c.in_err-run.ensures.fault.1 (rw kept.storage.device.tells told), printed.3),
       );
     })
 
@@ -32,17 +32,20 @@ returns-in_err-print-clause-prints g c =
     let left = c.loop-run.layout in
     let run = c.in-Some.run' in
     let comes = rw c.in-Some.is at c.in_ok-run.ensures.run in
+    let reads = reads_twice left.position c.in_ok-run.field-0 left.position state now (g.S.Storage.state c.next.new.image) kept.storage (search rules) in
     let exit = err_from_is_err_and c.from_residual-in_err-print.result c.from_residual-in_err-print.ensures.1 in
     rw (exit.1, exit.2) (record {
       all = tt;
       some = λ told.
           let printed = kept.printed told in
           let is = run-known tables (layout_tables left) state.byte_at now.byte_at left.position run kept.tables kept.storage.bytes (comes.4 (rw kept.storage.device.tells told)) in (
-            inr c.in_err-print.ensures.fault,
             printed.0 ++ (run ∷ []),
             _,
             runs_of-more tables state.byte_at c.args.layout.now.position left.position printed.0 run printed.1 is,
-            rw (run_lines-more printed.0 run) (part-after _ _ _ _ _ printed.3 (rw c.to_line.ensures at (rw c.as_bytes.ensures at c.in_err-print.ensures.part))),
+            inr (
+              (c.in_err-print.ensures.fault, reads-calm left.position _ _ reads),
+              rw (run_lines-more printed.0 run) (part-after _ _ _ _ _ printed.3 (rw c.to_line.ensures at (rw c.as_bytes.ensures at c.in_err-print.ensures.part))),
+            ),
           );
     })
 
