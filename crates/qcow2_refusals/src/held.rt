@@ -19,7 +19,7 @@ pub(crate) const BLOCK: HostCluster = HostCluster(2);
 pub(crate) const MOST_NUMBERS: usize = 1 << 17;
 
 /// More bytes than any call reports, so that no write of them asks for memory.
-const MOST_REPORTED: usize = 1024;
+const MOST_REPORTED: usize = 4096;
 
 /// A disk of 64 clusters of 512 bytes, of which guest cluster 3 is the data in host cluster 5.
 pub(crate) const DISK: Image = Image {
