@@ -1,19 +1,9 @@
-pub mod ApartLemmas
 pub mod ApplyLemmas
 pub mod BlocksLemmas
-pub mod BooksLemmas
-pub mod BrokenLemmas
 pub mod ChangedClustersLemmas
 pub mod ChangesLemmas
-mod CrashesExamples
-pub mod CrashesLemmas
-pub mod CheckedLemmas
 pub mod EditsByTableLemmas
-pub mod ErrorsLemmas
-pub mod FalseFlagsLemmas
-pub mod GainsLemmas
 pub mod GuestEditsLemmas
-pub mod HeaderLeftLemmas
 pub mod MadeEditsLemmas
 pub mod MappedClustersLemmas
 pub mod MissingLemmas

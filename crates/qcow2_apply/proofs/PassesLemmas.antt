@@ -5,7 +5,7 @@ use Rattle.qcow2_base.specs.Storage.{Image, SameOutside}
 use Rattle.qcow2_base.specs.declared.fault.Fault.{Fault}
 use Rattle.qcow2_base.specs.declared.fault.Fault.TheVariants.{Storage}
 use Rattle.qcow2_base.specs.declared.types.HostCluster.{HostCluster}
-use Rattle.qcow2_check.proofs.ClustersLemmas.{other-cluster}
+use Rattle.qcow2_summary.proofs.ClustersLemmas.{other-cluster}
 use Rattle.qcow2_check.specs.Failures.{TearsAtMost}
 use Rattle.qcow2_apply.specs.Passes.{KeepsOutside, ArePlacesApart, PassBreaksOff, Passes, PassesBefore, Places, StepsAt, TearsOne}
 

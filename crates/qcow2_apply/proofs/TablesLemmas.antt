@@ -18,7 +18,7 @@ use Rattle.qcow2_metadata.specs.Placed.{Writes, numbers_at, offset_of, write_fau
 use Rattle.qcow2_metadata.specs.Table.{TableState, l2_entries, l2_kind, l2_layout, layout_of_table, loaded_l2_table}
 use Rattle.qcow2_metadata.specs.Table.L2Guards.{fits_table}
 use Rattle.qcow2_apply.specs.GuestEdits.{edit_at, edits_by, edits_in, guest_edit_fits}
-use Rattle.qcow2_check.proofs.ClustersLemmas.{table-same}
+use Rattle.qcow2_summary.proofs.ClustersLemmas.{table-same}
 use Rattle.qcow2_check.specs.NamedTables.{named_cluster}
 use Rattle.qcow2_apply.proofs.PassesLemmas.{AreOfClusters}
 use Rattle.qcow2_apply.specs.Tables.{AllFit, AreMade, FailsAt, IsEdited, FirstFails, IsHeldTable, IsRereadFault, LoadsAt, NoneFailsBefore, l2_tables}

@@ -2,9 +2,7 @@ pub mod Apply
 pub mod Blocks
 pub mod ChangedClusters
 pub mod Changes
-pub mod Crashes
 pub mod EditsByTable
-pub mod Errors
 pub mod GuestEdits
 pub mod MappedClusters
 pub mod Passes

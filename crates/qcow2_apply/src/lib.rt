@@ -7,7 +7,6 @@ mod changed_clusters;
 mod changes;
 mod edits_by_table;
 mod guest_edits;
-pub mod laws;
 mod mapped_clusters;
 mod plan;
 mod planned_changes;

@@ -2,8 +2,8 @@
 
 use qcow2_apply::{GuestEdit, apply_edits};
 use qcow2_base::{Fault, MemStorage, Storage};
-use qcow2_check::is_consistent;
 use qcow2_metadata::Header;
+use qcow2_summary::is_consistent;
 use qcow2_testing::{image_with, put_all};
 use std::alloc::Global;
 

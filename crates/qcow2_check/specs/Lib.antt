@@ -1,10 +1,7 @@
-pub mod Consistency
 pub mod Counters
-pub mod EntryCounts
 pub mod Failures
 pub mod Findings
 pub mod Flags
-pub mod ImageEnd
 pub mod NamedTables
 pub mod Tally
 pub mod Uses

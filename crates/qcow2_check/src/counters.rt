@@ -308,7 +308,7 @@ impl<'a> Counters<'a> {
 
     /// The first of the clusters that have their counters in one block with this one's, if there is one.
     #[tactic(auto, using(crate::proofs::CountersLemmas::block_before))]
-    pub(crate) fn block_start(&self, cluster: HostCluster) -> u64
+    pub fn block_start(&self, cluster: HostCluster) -> u64
         ensures start { result + cluster.0 % counters_each self.now.header ≡ cluster.0 }
         ensures before { result ≤ cluster.0 }
         ensures same { (c : ℕ) → result ≤ c → c ≤ cluster.0 →
@@ -320,14 +320,14 @@ impl<'a> Counters<'a> {
 
     /// The header of the image.
     #[inline]
-    pub(crate) fn header(&self) -> &'a Header
+    pub fn header(&self) -> &'a Header
         ensures { result.now ≡ self.now.header }
     {
         self.header
     }
 
     /// Where the clusters end that blocks count: the number after the last of them, or 0 where there is none.
-    pub(crate) fn counted(&self) -> u64
+    pub fn counted(&self) -> u64
         ensures { IsCountedEnd self.now.header self.now.reftable result }
     {
         counted_end(self.header, &self.reftable)

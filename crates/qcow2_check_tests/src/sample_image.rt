@@ -1,9 +1,10 @@
 //! A small image that is consistent, changes of it, and the calls that are tested, without their clauses.
 
 use qcow2_base::{Fault, HostCluster, MemStorage, Storage};
-use qcow2_check::{Counters, Finding, Findings, WrongFlag, is_consistent};
+use qcow2_check::{Counters, Finding, Findings, WrongFlag};
 use qcow2_metadata::Header;
 use qcow2_repair::repair_image;
+use qcow2_summary::is_consistent;
 use qcow2_testing::{image_with, put_all};
 use std::alloc::Global;
 

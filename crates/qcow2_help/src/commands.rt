@@ -131,7 +131,8 @@ Compares the counter of each host cluster with its uses, and each copied flag wi
 is `consistent`, or how many there are of each. With `json` it prints numbers, as `qemu-img check
 --output=json` does. With `repair` it makes counters and flags right first; without it only reads.
 
-Status 0: consistent. 1: a fault. 3: only leaks and late flags, which harm nobody. 4: anything worse.
+Status 0: consistent. 1: a fault. 3: only leaks and late flags, which harm nobody if the file is whole.
+4: anything worse.
 Faults: those of `info`; 37 with snapshots, bitmaps or an encryption header; 18 to 21 of the tables. With
 `repair` also 39 where somebody else has the image open, and 38, 30 or 24 where it can't be repaired.
 

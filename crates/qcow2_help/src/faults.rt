@@ -239,7 +239,7 @@ Use `qmeta edit`, which changes no counter.
 const UNCOUNTED: &str = "\
 fault 37, Uncounted: All that refers to clusters must be read, and snapshots, bitmaps and encryption \
 headers aren't.
-`check` was asked of an image that has one of these.
+`check` or `layout` was asked of an image that has one of these.
 Run `qemu-img check`, which counts them.
 ";
 

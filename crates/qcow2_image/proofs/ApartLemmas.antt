@@ -9,7 +9,7 @@ use Rattle.qcow2_base.specs.declared.types.HostCluster.{HostCluster}
 use Rattle.qcow2_metadata.proofs.GrammarLemmas.{header_of-is}
 use Rattle.qcow2_metadata.specs.Header.{HeaderRecord, geometry_of}
 use Rattle.qcow2_metadata.specs.Header.Grammar.{header_of}
-use Rattle.qcow2_check.proofs.ApartLemmas.{first-used, l1-used, named-apart}
+use Rattle.qcow2_summary.proofs.ApartLemmas.{first-used, l1-used, named-apart}
 use Rattle.qcow2_check.specs.Findings.{AreRight, uses_of_kind}
 use Rattle.qcow2_check.specs.NamedTables.{l1_cluster, l1_layout, named_cluster}
 use Rattle.qcow2_check.specs.Uses.{ImageTables, header_uses}

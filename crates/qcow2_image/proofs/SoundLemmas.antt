@@ -15,7 +15,7 @@ use Rattle.qcow2_metadata.specs.Entries.L2Mapping.{Mapping, mapping}
 use Rattle.qcow2_metadata.specs.Header.{Geometry, HeaderRecord, geometry_of}
 use Rattle.qcow2_metadata.specs.Header.Grammar.{header_of}
 use Rattle.qcow2_metadata.specs.Table.{l2_entries, loaded_l2_table}
-use Rattle.qcow2_check.proofs.ApartLemmas.{header-once, l1-first-used}
+use Rattle.qcow2_summary.proofs.ApartLemmas.{header-once, l1-first-used}
 use Rattle.qcow2_check.specs.Findings.{AreRight, checked_tables}
 use Rattle.qcow2_check.specs.NamedTables.{l1_cluster, l1_layout, loaded_l1_table, named_cluster}
 use Rattle.qcow2_check.specs.Uses.{ImageTables, all_load, l1_entry_loads}

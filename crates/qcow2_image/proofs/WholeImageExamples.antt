@@ -6,7 +6,7 @@ use Rattle.qcow2_metadata.specs.Entries.L2Mapping.{Mapping, backing, data_file}
 use Rattle.qcow2_metadata.specs.Header.{geometry}
 use Rattle.qcow2_metadata.specs.Header.Chain.{extensions_at}
 use Rattle.qcow2_metadata.specs.Header.Grammar.{header_of}
-use Rattle.qcow2_check.proofs.SampleImage.{Part, byte, entry, laid, sample}
+use Rattle.qcow2_summary.proofs.SampleImage.{Part, byte, entry, laid, sample}
 use Rattle.qcow2_image.specs.Lookups.{image_mapping}
 use Rattle.qcow2_image.specs.WholeImage.{image_references}
 

@@ -13,7 +13,7 @@ use Rattle.qcow2_metadata.specs.Table.{l2_entries, l2_layout}
 use Rattle.qcow2_metadata.specs.Table.L2Guards.{one_if}
 use Rattle.qcow2_metadata.specs.declared.entries.ClustersToFreeEntry.{ClustersToFreeEntry}
 use Rattle.qcow2_check.specs.Counters.{counter_of}
-use Rattle.qcow2_check.specs.ImageEnd.{end_of, image_end, is_counted, is_in_use, most_clusters}
+use Rattle.qcow2_summary.specs.ImageEnd.{end_of, image_end, is_counted, is_in_use, most_clusters}
 use Rattle.qcow2_check.specs.NamedTables.{named_block, named_cluster}
 use Rattle.qcow2_check.specs.Tally.{ClusterUse}
 use Rattle.qcow2_check.specs.Uses.{ImageTables, block_uses, entry_uses, header_uses, image_uses, l1_entry_uses, uses_of}

@@ -6,10 +6,10 @@ use Rattle.std.proofs.lemmas.Nat.{mul-le, pow_pos}
 use Rattle.qcow2_base.specs.Format.{max_file_length}
 use Rattle.qcow2_base.specs.Storage.{Image, OnImage, OnlyReads, StorageState}
 use Rattle.qcow2_check.specs.Counters.{block_of_cluster, counter_of}
-use Rattle.qcow2_check.specs.ImageEnd.{most_clusters}
+use Rattle.qcow2_summary.specs.ImageEnd.{most_clusters}
 use Rattle.qcow2_check.specs.Tally.{TallyState, cell_at}
 use Rattle.qcow2_check.specs.Uses.{ImageTables}
-use Rattle.qcow2_check.proofs.ImageEndLemmas.{IsEnd, end_of-is}
+use Rattle.qcow2_summary.proofs.ImageEndLemmas.{IsEnd, end_of-is}
 use Rattle.qcow2_layout.proofs.WindowLemmas.{code-some}
 use Rattle.qcow2_layout.specs.Layout.{AreOne, AreRuns, IsLayoutOf, IsStretch, IsRun, IsWholeRun, LayoutState, MovesLayout, Parts, moved_part, parts_for, layout_tables}
 use Rattle.qcow2_layout.specs.Parts.{image_parts, is_free, taken_end, part_at, part_in, unused_part}
@@ -265,10 +265,6 @@ same-tables x Fact old now first later reads moves fact = λ told.
     let tables : layout_tables later ≡ layout_tables first = ap layout_tables moves.same in
     let known : Fact (layout_tables later) now.byte_at = fact (rw reads.device.tells told) in
     subst (λ t. Fact t old.byte_at) tables (subst (λ image. Fact (layout_tables later) image) reads.bytes known)
-
--- reads one after another that returned values
-pub reads-twice : {A B C : Type 0} (x : A) (y : B) (z : C) (a b c : StorageState) → OnlyReads (Ok x) a b → OnlyReads (Ok y) b c → OnlyReads (Ok z) a c
-reads-twice x y z a b c one other = grind (arith, nat_tests, one, other)
 
 -- runs are determined by where they begin
 no-shorter : (cb : ℕ) (parts : Parts) (end from : ℕ) (one other : Run) → IsRun cb parts end from one → IsRun cb parts end from other → one.count < other.count → ⊥

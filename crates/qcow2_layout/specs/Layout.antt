@@ -4,7 +4,7 @@ use Rattle.qcow2_base.specs.Storage.{Image, OnImage, StorageState}
 use Rattle.qcow2_base.specs.declared.fault.Fault.{Fault}
 use Rattle.qcow2_metadata.specs.Header.{HeaderRecord, geometry_of}
 use Rattle.qcow2_check.specs.Counters.{CountersState, IsKeptBlockOf}
-use Rattle.qcow2_check.specs.ImageEnd.{most_clusters}
+use Rattle.qcow2_summary.specs.ImageEnd.{most_clusters}
 use Rattle.qcow2_check.specs.Tally.{TallyState}
 use Rattle.qcow2_check.specs.Uses.{ImageTables, all_load}
 use Rattle.qcow2_layout.specs.Parts.{taken_end, part_at}
@@ -36,11 +36,14 @@ pub record IsRun (cb : ℕ) (parts : Parts) (end from : ℕ) (run : Run) : Type 
   pub one : AreOne cb parts from run.count run.part
   pub ends : from + run.count < end → parts (from + run.count) ≢ moved_part (run.count * 2 ^ cb) run.part
 
--- runs one after another, from a cluster on up to the image's end
+-- runs of an image that ends before a cluster, one after another, from one cluster on up to another
+abbrev pub AreRunsTo : ℕ → Parts → ℕ → ℕ → List Run → ℕ → Type 0
+AreRunsTo cb parts end from [] to = from ≡ to
+AreRunsTo cb parts end from (run ∷ runs) to = IsRun cb parts end from run × AreRunsTo cb parts end (from + run.count) runs to
+
+-- the same, up to the image's end
 abbrev pub AreRuns : ℕ → Parts → ℕ → ℕ → List Run → Type 0
-AreRuns cb parts end from [] = from ≡ end
-AreRuns cb parts end from (run ∷ runs) =
-    IsRun cb parts end from run × AreRuns cb parts end (from + run.count) runs
+AreRuns cb parts end from runs = AreRunsTo cb parts end from runs end
 
 -- a part and an end: the clusters from one on up to there, one at least, are one, the first of this part
 abbrev pub IsStretch : ℕ → Parts → ℕ → Part × ℕ → Type 0

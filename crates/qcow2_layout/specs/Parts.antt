@@ -10,7 +10,7 @@ use Rattle.qcow2_metadata.specs.Placed.{numbers_at}
 use Rattle.qcow2_metadata.specs.Table.{l2_entries, l2_layout}
 use Rattle.qcow2_metadata.specs.declared.entries.ClustersToFreeEntry.{ClustersToFreeEntry}
 use Rattle.qcow2_check.specs.Counters.{counter_of}
-use Rattle.qcow2_check.specs.ImageEnd.{end_of, most_clusters}
+use Rattle.qcow2_summary.specs.ImageEnd.{end_of, most_clusters}
 use Rattle.qcow2_check.specs.NamedTables.{l1_cluster, named_block, named_cluster, reftable_cluster}
 use Rattle.qcow2_check.specs.Uses.{ImageTables}
 use Rattle.qcow2_layout.specs.declared.parts.Part.{Part}

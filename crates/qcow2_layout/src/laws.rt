@@ -3,7 +3,7 @@
 
 ghost use Rattle.std.specs.Prelude.{◌≡◌, ℕ, ◌*◌, ◌^◌, List};
 ghost use Rattle.qcow2_base.specs.Storage.{Image};
-ghost use Rattle.qcow2_check.specs.ImageEnd.{image_end};
+ghost use Rattle.qcow2_summary.specs.ImageEnd.{image_end};
 ghost use Rattle.qcow2_check.specs.Uses.{ImageTables};
 ghost use Rattle.qcow2_layout.specs.Layout.{AreRuns, Parts};
 ghost use Rattle.qcow2_layout.specs.Parts.{taken_end};

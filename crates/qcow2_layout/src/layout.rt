@@ -9,8 +9,9 @@ use crate::parts::{Part, Run};
 use crate::window::Window;
 use crate::windows::Windows;
 use qcow2_base::{ClusterCount, Fault, HostCluster, Storage};
-use qcow2_check::{Counters, load_l1_table, most_clusters};
+use qcow2_check::{Counters, load_l1_table};
 use qcow2_metadata::{Header, L1Table, Table};
+use qcow2_summary::most_clusters;
 use std::alloc::Global;
 use std::marker::Model;
 
@@ -31,7 +32,7 @@ impl<'a> Model for Layout<'a> {
     ghost use Rattle.std.specs.Prelude.{◌≡◌, ◌<◌, ◌≤◌, IfSome, length};
     ghost use Rattle.qcow2_base.specs.Format.{max_file_length, most_l1_entries};
     ghost use Rattle.qcow2_metadata.specs.Header.{geometry_of};
-    ghost use Rattle.qcow2_check.specs.ImageEnd.{most_clusters};
+    ghost use Rattle.qcow2_summary.specs.ImageEnd.{most_clusters};
     ghost use Rattle.qcow2_layout.specs.Layout.{LayoutState};
 
     ghost Value = { LayoutState };
@@ -58,7 +59,7 @@ impl<'a> Layout<'a> {
     ghost use Rattle.qcow2_metadata.specs.Header.{uncounted_part};
     ghost use Rattle.qcow2_metadata.specs.Results.{result_map};
     ghost use Rattle.qcow2_check.specs.Findings.{IsCheckFault, IsLaterFault, checked_tables};
-    ghost use Rattle.qcow2_check.specs.ImageEnd.{most_clusters};
+    ghost use Rattle.qcow2_summary.specs.ImageEnd.{most_clusters};
     ghost use Rattle.qcow2_layout.specs.declared.parts.Part.TheVariants.{Free};
     ghost use Rattle.qcow2_layout.specs.Layout.{IsLayoutOf, IsStretch, IsWholeRun, MovesLayout, PassesRun, parts_for, layout_tables};
 

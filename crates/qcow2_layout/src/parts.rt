@@ -2,7 +2,7 @@
 
 ghost use Rattle.std.specs.Prelude.{◌≡◌, ◌↔◌, ◌<◌, ◌^◌, IsTrue, Option};
 ghost use Rattle.qcow2_layout.specs.Layout.{moved_part};
-ghost use Rattle.qcow2_layout.specs.Parts.{code_of, is_free, unused_part};
+ghost use Rattle.qcow2_layout.specs.Parts.{code_of, unused_part};
 ghost use Rattle.qcow2_layout.specs.Window.{cell_of};
 
 use qcow2_base::{GuestOffset, HostCluster};
@@ -10,7 +10,8 @@ use qcow2_base::{GuestOffset, HostCluster};
 // The number of guest data at offset 0. Each number below stands for another part.
 const DATA_CODE: u64 = 9;
 
-/// What a cluster of an image is. A cluster that is used as several parts is the first of these.
+/// What a cluster of an image is. One that is used as several is the first that stands here, of guest data and
+/// compressed data that of the lowest guest offset.
 #[derive(Clone, Copy, Debug, PartialEq, Eq)]
 pub enum Part {
     /// The header's cluster, which is cluster 0.

@@ -1,9 +1,11 @@
-use Rattle.std.proofs.Common.{◌≡◌, ℕ, ◌+◌, ◌*◌, ◌^◌, ◌≤◌, Result, Ok, Err, ap, subst, ◌∙◌, arith}
+use Rattle.std.proofs.Common.{◌≡◌, ℕ, ◌+◌, ◌*◌, ◌^◌, ◌≤◌, Option, Some, None, IfSome, Result, Ok, Err, ap, subst, tt, ◌∙◌, arith}
 use Rattle.std.proofs.Math.Nat.{div-mul-le_self, mul-le-mul_right}
 use Rattle.qcow2_base.specs.Format.{max_file_length}
 use Rattle.qcow2_base.specs.Storage.{Image, OnlyReads, StorageState}
 use Rattle.qcow2_base.specs.declared.fault.Fault.{Fault}
-use Rattle.qcow2_check.specs.ImageEnd.{most_clusters}
+use Rattle.qcow2_base.specs.declared.fault.Fault.TheVariants.{Uncounted}
+use Rattle.qcow2_base.specs.declared.fault.UncountedPart.{UncountedPart}
+use Rattle.qcow2_summary.specs.ImageEnd.{most_clusters}
 use Rattle.qcow2_check.specs.Uses.{ImageTables}
 use Rattle.qcow2_layout.specs.Layout.{IsRun}
 use Rattle.qcow2_layout.specs.Parts.{part_at, taken_end}
@@ -42,3 +44,9 @@ ends-within header to within = omega (
 pub reads-fail : {A B C : Type 0} (value : A) (fault : Fault) (first second third : StorageState)
     → OnlyReads {T = A} (Ok value) first second → OnlyReads {T = B} (Err fault) second third → OnlyReads {T = C} (Err fault) first third
 reads-fail value fault first second third one two = grind arith
+
+-- a fault of one call is that of the call around it
+pub uncounted-too : (A B : Type 0) (fault : Fault) (part : Option UncountedPart) → IfSome part (λ p. ◌≡◌ {A = Result A Fault} (Err fault) (Err (Uncounted p)))
+    → IfSome part (λ p. ◌≡◌ {A = Result B Fault} (Err fault) (Err (Uncounted p)))
+uncounted-too A B fault None is = tt
+uncounted-too A B fault (Some p) is = grind (arith, is)

@@ -1,3 +1,4 @@
+mod PictureExamples
 pub mod ImageLemmas
 pub mod PictureLemmas
 pub mod ShadesLemmas

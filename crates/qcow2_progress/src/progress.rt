@@ -12,7 +12,7 @@ const PATIENCE: u64 = 2000;
 // For how many milliseconds a line stays as it is.
 const PAUSE: u64 = 100;
 
-// Goes to the begin of a terminal's line, and wipes it.
+// Goes to the start of a terminal's line, and wipes it.
 const WIPE: &str = "\r\x1b[K";
 
 /// How far a command is that reads an image's L2 tables: how many of them it has begun to read, in how many
@@ -82,7 +82,7 @@ impl<'a, C: Clock, E: Write + Copy> Progress<'a, C, E> {
         }
     }
 
-    // Counts a table whose begin is read. Where all were begun in this pass, it is the first of the next.
+    // Counts a table whose first bytes are read. Where all were begun in this pass, it is the first of the next.
     fn begin(&self, table: &WatchedTable) {
         let all = self.tables.len() as u64;
         if table.pass.get() == self.pass.get() {

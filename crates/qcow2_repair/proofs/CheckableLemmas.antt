@@ -17,7 +17,7 @@ use Rattle.qcow2_metadata.specs.Header.{HeaderRecord, IsValidHeader, uncounted_p
 use Rattle.qcow2_metadata.specs.Header.Open.{SaysSame, opened_text}
 use Rattle.qcow2_metadata.specs.Placed.{Layout, loaded_numbers, numbers_at, offset_of, place_fault, valid_numbers_at}
 use Rattle.qcow2_metadata.specs.Table.{first_fault, l2_entries}
-use Rattle.qcow2_check.proofs.ApartLemmas.{header-used, named-used, named-below}
+use Rattle.qcow2_summary.proofs.ApartLemmas.{header-used, named-used, named-below}
 use Rattle.qcow2_check.proofs.FindingsLemmas.{excludes, kind-cons, uses_by_kind}
 use Rattle.qcow2_check.specs.Findings.{checked_tables, is_shared, uses_of_kind}
 use Rattle.qcow2_check.specs.NamedTables.{l1_cluster, l1_layout, loaded_l1_table, loaded_reftable, reftable_cluster, reftable_layout}

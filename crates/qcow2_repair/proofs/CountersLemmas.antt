@@ -22,7 +22,7 @@ use Rattle.qcow2_check.specs.NamedTables.{named_block}
 use Rattle.qcow2_check.specs.Tally.{TallyState, cell_at}
 use Rattle.qcow2_check.specs.Uses.{ImageTables, image_uses}
 use Rattle.qcow2_repair.proofs.RepairLemmas.{one-block, uses-stay}
-use Rattle.qcow2_check.proofs.ClustersLemmas.{other-cluster}
+use Rattle.qcow2_summary.proofs.ClustersLemmas.{other-cluster}
 use Rattle.qcow2_repair.specs.Repair.{IsRepairable}
 use Rattle.qcow2_repair.specs.Counters.{BreaksOff, IsEitherCounter, IsOutsideBlocks, IsPastCounters, PassesBetween, PassesBlock, PassesCounters, PassesSomeCounters, block_counters, counter_in, counter_towards, passed_counter}
 use Rattle.qcow2_repair.specs.declared.counters.CounterPass.{CounterPass}

@@ -17,7 +17,7 @@ use Rattle.qcow2_metadata.specs.Header.{Geometry, HeaderRecord, geometry_of}
 use Rattle.qcow2_metadata.specs.Placed.{offset_of}
 use Rattle.qcow2_metadata.specs.Results.{result_map}
 use Rattle.qcow2_metadata.specs.Table.{loaded_l2_table}
-use Rattle.qcow2_check.proofs.ApartLemmas.{header-used, l1-used, named-below, named-used}
+use Rattle.qcow2_summary.proofs.ApartLemmas.{header-used, l1-used, named-below, named-used}
 use Rattle.qcow2_check.proofs.FindingsLemmas.{cell_counts, excludes, uses_by_kind}
 use Rattle.qcow2_check.specs.Counters.{block_of_cluster}
 use Rattle.qcow2_check.specs.Findings.{CountsAll, is_shared}
@@ -26,7 +26,7 @@ use Rattle.qcow2_check.specs.NamedTables.{l1_cluster, l1_layout, named_cluster}
 use Rattle.qcow2_check.specs.Tally.{TallyState, cell_at}
 use Rattle.qcow2_check.specs.Uses.{ImageTables, all_load, image_uses, l1_entry_loads, uses_of}
 use Rattle.qcow2_repair.proofs.FlagsLemmas.{passed_cases}
-use Rattle.qcow2_check.proofs.ClustersLemmas.{table-same}
+use Rattle.qcow2_summary.proofs.ClustersLemmas.{table-same}
 use Rattle.qcow2_repair.specs.Repair.{IsRepairable}
 use Rattle.qcow2_repair.specs.Flags.{BreaksOffFlags, BreaksOffL2, FlagPassState, IsBetween, IsOutsideL2Tables, IsOutsideTables, NamesTable, PassesFlags, PassesL2, PassesSomeFlags, TearsL2, TearsTable, due_flag, l1_due, l1_in, l2_due, l2_in, pass_all, pass_between, passed_l1, passed_l2, tally_uses, uses_between, with_due}
 

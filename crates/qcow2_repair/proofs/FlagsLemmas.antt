@@ -20,7 +20,7 @@ use Rattle.qcow2_metadata.specs.Table.{first_fault, l2_layout, loaded_l2_table}
 use Rattle.qcow2_check.specs.NamedTables.{named_cluster}
 use Rattle.qcow2_check.specs.Uses.{all_load, l1_entry_loads}
 use Rattle.qcow2_repair.proofs.RepairLemmas.{entry-loads}
-use Rattle.qcow2_check.proofs.ClustersLemmas.{other-cluster, table-same}
+use Rattle.qcow2_summary.proofs.ClustersLemmas.{other-cluster, table-same}
 use Rattle.qcow2_repair.specs.Flags.{BreaksOffL2, FlagPassState, IsOutsideL2Tables, NamesTable, PassesL2, l2_due, l2_in, passed_l2, with_due}
 
 -- an entry that has the flag stays, and so does one that the flag isn't due to

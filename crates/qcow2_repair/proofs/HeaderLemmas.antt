@@ -15,7 +15,7 @@ use Rattle.qcow2_metadata.specs.Header.Open.{BecomesWritable, IsWritableFault, S
 use Rattle.qcow2_metadata.specs.Results.{IsFromOutside}
 use Rattle.qcow2_metadata.specs.Table.{IsTableFault}
 use Rattle.qcow2_metadata.specs.Header.Text.{chosen_text, header_after_write, header_text, header_to_write}
-use Rattle.qcow2_check.proofs.ApartLemmas.{first-used, header-used, kind-append, l1-first-used, named-below, named-used}
+use Rattle.qcow2_summary.proofs.ApartLemmas.{first-used, header-used, kind-append, l1-first-used, named-below, named-used}
 use Rattle.qcow2_check.proofs.FindingsLemmas.{excludes, uses_by_kind}
 use Rattle.qcow2_check.specs.Findings.{is_shared, uses_of_kind}
 use Rattle.qcow2_check.specs.NamedTables.{l1_cluster, l1_layout, loaded_l1_table, named_block, named_cluster}
@@ -26,7 +26,7 @@ use Rattle.qcow2_check.specs.declared.tally.UseKind.TheVariants.{Fixed, L2Table}
 use Rattle.qcow2_repair.proofs.CountersLemmas.{block-same}
 use Rattle.qcow2_repair.proofs.OrderLemmas.{fixed-both}
 use Rattle.qcow2_repair.proofs.RepairLemmas.{all-load-same, blocks-used, flat_map-same}
-use Rattle.qcow2_check.proofs.ClustersLemmas.{table-same}
+use Rattle.qcow2_summary.proofs.ClustersLemmas.{table-same}
 use Rattle.qcow2_repair.proofs.FlagWindowsLemmas.{loads-by}
 use Rattle.qcow2_repair.specs.Repair.{IsPassFault, IsRepairable, MakesWritable, tables_in}
 use Rattle.qcow2_check.specs.Failures.{ReportsFailures}

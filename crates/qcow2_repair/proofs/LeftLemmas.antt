@@ -9,10 +9,10 @@ use Rattle.qcow2_base.specs.Storage.{Image}
 use Rattle.qcow2_base.specs.declared.types.HostCluster.{HostCluster}
 use Rattle.qcow2_metadata.specs.Entries.{is_copied}
 use Rattle.qcow2_metadata.specs.Header.{HeaderRecord, geometry_of}
-use Rattle.qcow2_check.proofs.ApartLemmas.{named-below, named-used}
+use Rattle.qcow2_summary.proofs.ApartLemmas.{named-below, named-used}
 use Rattle.qcow2_check.proofs.FindingsLemmas.{uses_by_kind}
 use Rattle.qcow2_check.proofs.FindingsListLemmas.{no-more, none-just-where-right, pass-one, take-one}
-use Rattle.qcow2_check.specs.Consistency.{IsConsistent}
+use Rattle.qcow2_summary.specs.Consistency.{IsConsistent}
 use Rattle.qcow2_check.specs.Counters.{block_of_cluster}
 use Rattle.qcow2_check.specs.Findings.{finding_at, findings_from, image_findings, is_shared, is_wrong}
 use Rattle.qcow2_check.specs.Flags.{flagged_cluster, image_flags, l1_flag, l2_flag, wrong_flag}

@@ -10,7 +10,7 @@ use Rattle.qcow2_metadata.proofs.EntriesLemmas.{div_rises}
 use Rattle.qcow2_metadata.proofs.TableLemmas.{table_numbers_same}
 use Rattle.qcow2_metadata.specs.Header.{geometry_of}
 use Rattle.qcow2_metadata.specs.Placed.{offset_of}
-use Rattle.qcow2_check.proofs.ApartLemmas.{kind-append, l1-used}
+use Rattle.qcow2_summary.proofs.ApartLemmas.{kind-append, l1-used}
 use Rattle.qcow2_check.proofs.FindingsLemmas.{excludes, uses_by_kind}
 use Rattle.qcow2_check.specs.Counters.{blocks_fault, counters_each}
 use Rattle.qcow2_check.specs.Findings.{is_shared, uses_of_kind}

@@ -12,7 +12,7 @@ use Rattle.qcow2_metadata.specs.Entries.{with_copied}
 use Rattle.qcow2_metadata.specs.Header.{Geometry, HeaderRecord, geometry_of}
 use Rattle.qcow2_metadata.specs.Results.{result_map}
 use Rattle.qcow2_metadata.specs.Table.{loaded_l2_table}
-use Rattle.qcow2_check.proofs.ApartLemmas.{named-below}
+use Rattle.qcow2_summary.proofs.ApartLemmas.{named-below}
 use Rattle.qcow2_check.specs.Counters.{block_of_cluster}
 use Rattle.qcow2_check.specs.Flags.{flagged_cluster}
 use Rattle.qcow2_check.specs.NamedTables.{named_cluster}

@@ -8,8 +8,8 @@ use Rattle.qcow2_metadata.specs.Header.{Geometry, geometry_of}
 use Rattle.qcow2_metadata.specs.Placed.{numbers_at}
 use Rattle.qcow2_metadata.specs.Results.{result_map}
 use Rattle.qcow2_metadata.specs.Table.{l2_layout, loaded_l2_table}
-use Rattle.qcow2_check.proofs.ClustersLemmas.{table-same}
-use Rattle.qcow2_check.proofs.ApartLemmas.{kind-append, named-below, named-used}
+use Rattle.qcow2_summary.proofs.ClustersLemmas.{table-same}
+use Rattle.qcow2_summary.proofs.ApartLemmas.{kind-append, named-below, named-used}
 use Rattle.qcow2_check.proofs.FindingsLemmas.{excludes, kind-cons, uses_by_kind}
 use Rattle.qcow2_check.specs.Findings.{is_shared, uses_of_kind}
 use Rattle.qcow2_check.specs.NamedTables.{named_block, named_cluster}

@@ -8,7 +8,7 @@ ghost use Rattle.qcow2_base.specs.declared.fault.Fault.{Fault};
 ghost use Rattle.qcow2_base.specs.declared.fault.Fault.TheVariants.{Storage};
 ghost use Rattle.qcow2_base.specs.declared.types.HostCluster.{HostCluster};
 ghost use Rattle.qcow2_metadata.specs.Header.{HeaderRecord, IsValidHeader};
-ghost use Rattle.qcow2_check.specs.Consistency.{IsConsistent};
+ghost use Rattle.qcow2_summary.specs.Consistency.{IsConsistent};
 ghost use Rattle.qcow2_check.specs.Counters.{counter_of};
 ghost use Rattle.qcow2_check.specs.Findings.{checked_tables};
 ghost use Rattle.qcow2_check.specs.Uses.{ImageTables, image_uses};

@@ -3,11 +3,11 @@ use Rattle.std.proofs.lemmas.Bool.Decides.{nat_tests}
 use Rattle.std.proofs.lemmas.List.Sums.{sum_by-cons}
 use Rattle.std.specs.List.{sum_by}
 use Rattle.qcow2_base.specs.Storage.{Image}
-use Rattle.qcow2_check.proofs.ImageEndLemmas.{findings-end, last_below}
+use Rattle.qcow2_summary.proofs.ImageEndLemmas.{findings-end, last_below}
 use Rattle.qcow2_check.specs.Counters.{CountersState}
 use Rattle.qcow2_check.specs.Findings.{FindingsState, findings_left, image_findings, tables_of}
 use Rattle.qcow2_check.specs.Flags.{FlagsState, flag_tables}
-use Rattle.qcow2_check.specs.ImageEnd.{findings_end, most_clusters}
+use Rattle.qcow2_summary.specs.ImageEnd.{findings_end, most_clusters}
 use Rattle.qcow2_check.specs.Uses.{ImageTables}
 use Rattle.qcow2_check.specs.declared.findings.Finding.{Finding}
 use Rattle.qcow2_session.proofs.RunsLemmas.{further, goes-further}

@@ -11,16 +11,16 @@ use Rattle.qcow2_metadata.specs.Header.{HeaderRecord, IsValidHeader, geometry_of
 use Rattle.qcow2_metadata.specs.Header.Grammar.{header_of}
 use Rattle.qcow2_metadata.specs.Placed.{numbers_at, place_fault}
 use Rattle.qcow2_metadata.specs.Results.{and_then, result_map, unless_refused}
-use Rattle.qcow2_check.proofs.ApartLemmas.{header-once, l1-first-used, l1-used, named-apart}
+use Rattle.qcow2_summary.proofs.ApartLemmas.{header-once, l1-first-used, l1-used, named-apart}
 use Rattle.qcow2_check.specs.Counters.{blocks_fault}
 use Rattle.qcow2_check.specs.Findings.{AreRight, uses_of_kind}
 use Rattle.qcow2_check.specs.NamedTables.{l1_cluster, l1_layout, loaded_l1_table}
 use Rattle.qcow2_check.specs.Uses.{ImageTables, header_uses}
 use Rattle.qcow2_check.specs.declared.tally.UseKind.TheVariants.{Fixed}
 use Rattle.qcow2_image.specs.Lookups.{guest_mapping, image_mapping, mapping_in}
-use Rattle.qcow2_apply.proofs.ApartLemmas.{all-apart, block-apart}
+use Rattle.qcow2_apply_laws.proofs.ApartLemmas.{all-apart, block-apart}
 use Rattle.qcow2_apply.proofs.ApplyLemmas.{after-field, are-planned}
-use Rattle.qcow2_apply.proofs.HeaderLeftLemmas.{header-left}
+use Rattle.qcow2_apply_laws.proofs.HeaderLeftLemmas.{header-left}
 use Rattle.qcow2_apply.specs.Apply.{FollowsPlan, IsElsewhere, LosesNoName, l2_tables_of, plan_tables, tables_by}
 use Rattle.qcow2_apply.specs.Passes.{ArePlacesApart}
 use Rattle.qcow2_apply.specs.Plan.{IsPlanFor, IsPlanOf}

@@ -13,10 +13,10 @@ use Rattle.qcow2_check.specs.Flags.{image_flags}
 use Rattle.qcow2_check.specs.Uses.{ImageTables}
 use Rattle.qcow2_check.specs.declared.findings.Finding.{Finding}
 use Rattle.qcow2_check.specs.declared.flags.WrongFlag.{WrongFlag}
-use Rattle.qcow2_apply.proofs.CheckedLemmas.{finds-none}
-use Rattle.qcow2_apply.proofs.HeaderLeftLemmas.{header-left-by-check}
+use Rattle.qcow2_apply_laws.proofs.CheckedLemmas.{finds-none}
+use Rattle.qcow2_apply_laws.proofs.HeaderLeftLemmas.{header-left-by-check}
 use Rattle.qcow2_apply.specs.Apply.{EditsDisk, FollowsPlan, LosesNoName, l2_tables_of}
-use Rattle.qcow2_apply.specs.Errors.{HasNoErrors, IsLate}
+use Rattle.qcow2_apply_laws.specs.Errors.{HasNoErrors, IsLate}
 use Rattle.qcow2_apply.specs.Passes.{ArePlacesApart}
 use Rattle.qcow2_apply.specs.Plan.{IsPlanFor, IsPlanOf}
 use Rattle.qcow2_apply.specs.declared.changed_clusters.ChangedClusters.{ChangedClusters}

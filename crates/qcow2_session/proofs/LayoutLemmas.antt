@@ -6,14 +6,14 @@ use Rattle.qcow2_base.specs.declared.fault.Fault.{Fault}
 use Rattle.qcow2_base.specs.declared.fault.Fault.TheVariants.{NoMemory, Storage}
 use Rattle.qcow2_check.specs.Findings.{checked_tables}
 use Rattle.qcow2_check.specs.Uses.{ImageTables}
-use Rattle.qcow2_layout.specs.Layout.{IsRun, LayoutState, Parts, layout_tables}
+use Rattle.qcow2_layout.specs.Layout.{AreRunsTo, IsRun, LayoutState, Parts, layout_tables}
 use Rattle.qcow2_layout.specs.Parts.{part_at, taken_end}
 use Rattle.qcow2_layout.specs.declared.parts.Run.{Run}
 use Rattle.qcow2_picture.proofs.ImageLemmas.{IsRunOf}
 use Rattle.qcow2_metadata.specs.Header.{HeaderRecord}
 use Rattle.qcow2_metadata.specs.Results.{IsFromOutside}
 use Rattle.qcow2_session.proofs.PrintingLemmas.{read_fault-of, run_between}
-use Rattle.qcow2_session.specs.Commands.Layout.{AreRunsOf, AreRunsTo, PrintsAllRuns, PrintsInLines, PrintsRunsFrom, PrintsSomeRuns, run_line}
+use Rattle.qcow2_session.specs.Commands.Layout.{AreRunsOf, PrintsAllRuns, PrintsInLines, PrintsRunsFrom, PrintsSomeRuns, run_line}
 use Rattle.qcow2_session.specs.Commands.Printing.{IsOutputFault, OutputBytes, OutputGets, OutputGetsPart, Run as Printed}
 
 -- runs, and one more

@@ -2,7 +2,7 @@ use Rattle.std.proofs.Common.{◌≡◌, ◌<◌, ◌+◌, ◌++◌, ◌∷◌, 
 use Rattle.std.proofs.lemmas.List.{map-append, take_more}
 use Rattle.qcow2_base.specs.Storage.{Image, OnImage, OnlyReads, StorageState}
 use Rattle.qcow2_base.specs.declared.types.HostCluster.{HostCluster}
-use Rattle.qcow2_check.proofs.ImageEndLemmas.{IsAnswer, counter-read}
+use Rattle.qcow2_summary.proofs.ImageEndLemmas.{IsAnswer, counter-read}
 use Rattle.qcow2_check.specs.Counters.{CountersState, IsSameButBlock, counter_of, placed_reftable}
 use Rattle.qcow2_metadata.specs.Header.{HeaderRecord}
 use Rattle.qcow2_metadata.specs.Results.{result_map}

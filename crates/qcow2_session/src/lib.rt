@@ -11,7 +11,7 @@ pub use commands::{
     report_fault, run, run_words,
 };
 pub use qcow2_apply::{ChangedClusters, GuestEdit, KeptCluster, Plan, apply_edits};
-pub use qcow2_check::{Counters, Finding, Findings, FlagPlace, Flags, WrongFlag, is_consistent};
+pub use qcow2_check::{Counters, Finding, Findings, FlagPlace, Flags, WrongFlag};
 use qcow2_check::{load_l1_table, load_l2_table, named_cluster};
 pub use qcow2_edits::{
     Change, Edit, Outcome, Step, StepReply, edit_settled, edit_table, edits_fit, settle, step_block,
@@ -19,3 +19,4 @@ pub use qcow2_edits::{
 pub use qcow2_image::{Content, Extent, Extents, edit_image, lookup, lookup_image, step_image};
 use qcow2_image::{L2Tables, lookup_with_header};
 pub use qcow2_repair::repair_image;
+pub use qcow2_summary::is_consistent;

@@ -6,7 +6,7 @@ use Rattle.qcow2_base.specs.declared.fault.Fault.{Fault}
 use Rattle.qcow2_base.specs.declared.fault.Fault.TheVariants.{Storage}
 use Rattle.qcow2_check.specs.Findings.{checked_tables}
 use Rattle.qcow2_check.specs.Uses.{ImageTables}
-use Rattle.qcow2_layout.specs.Layout.{IsRun, LayoutState, Parts, layout_tables, parts_for}
+use Rattle.qcow2_layout.specs.Layout.{AreRunsTo, LayoutState, layout_tables}
 use Rattle.qcow2_layout.specs.Parts.{part_at, taken_end}
 use Rattle.qcow2_layout.specs.declared.parts.Part.{Part}
 use Rattle.qcow2_layout.specs.declared.parts.Part.TheVariants as part
@@ -45,11 +45,6 @@ part_text part.Free = codes "free"
 -- the line of a run: its first cluster, how many it has, and what they are
 abbrev pub run_line : Run → List ℕ
 run_line run = pair_text run.first.0 run.count ++ codes " " ++ part_text run.part ++ codes "\n"
-
--- runs of an image that ends before a cluster, one after another, from one cluster on up to another
-abbrev pub AreRunsTo : ℕ → Parts → ℕ → ℕ → List Run → ℕ → Type 0
-AreRunsTo cb parts end from [] to = from ≡ to
-AreRunsTo cb parts end from (run ∷ runs) to = IsRun cb parts end from run × AreRunsTo cb parts end (from + run.count) runs to
 
 -- the runs of an image with these tables, from a cluster on up to another
 abbrev pub AreRunsOf : ImageTables → Image → ℕ → List Run → ℕ → Type 0

@@ -1,6 +1,6 @@
 use Rattle.std.proofs.Common.{◌≡◌, ◌-◌, ◌≤◌, Ok}
 use Rattle.qcow2_base.specs.Storage.{OnImage, OnlyReads}
-use Rattle.qcow2_check.specs.ImageEnd.{most_clusters}
+use Rattle.qcow2_summary.specs.ImageEnd.{most_clusters}
 use Rattle.qcow2_layout.specs.Layout.{IsLayoutOf, layout_tables}
 use Rattle.qcow2_layout.specs.Parts.{taken_end}
 use Rattle.qcow2_picture.specs.Picture.{IsWhole, Shows, shades_of}

@@ -3,9 +3,9 @@ use Rattle.std.specs.Prelude.{ℕ, ◌+◌, ◌^◌, Result}
 use Rattle.std.specs.Int.{div_ceil}
 use Rattle.qcow2_base.specs.Storage.{Image}
 use Rattle.qcow2_base.specs.declared.fault.Fault.{Fault}
-use Rattle.qcow2_check.specs.EntryCounts.{entry_counts}
+use Rattle.qcow2_summary.specs.EntryCounts.{entry_counts}
 use Rattle.qcow2_check.specs.Findings.{checked_tables}
-use Rattle.qcow2_check.specs.ImageEnd.{image_end}
+use Rattle.qcow2_summary.specs.ImageEnd.{image_end}
 use Rattle.qcow2_check.specs.Uses.{ImageTables}
 use Rattle.qcow2_metadata.specs.Header.{HeaderRecord, geometry_of}
 use Rattle.qcow2_metadata.specs.Results.{result_map}

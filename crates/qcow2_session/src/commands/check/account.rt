@@ -5,7 +5,7 @@ ghost use Rattle.qcow2_base.specs.Storage.{OnImage, OnlyReads};
 ghost use Rattle.qcow2_base.specs.declared.fault.Fault.TheVariants.{NoMemory};
 ghost use Rattle.qcow2_check.specs.Findings.{IsFindingsOf, IsLaterFault, MovesFindings, image_findings, tables_of};
 ghost use Rattle.qcow2_check.specs.Flags.{IsFlagsOf, MovesFlags, flags_left};
-ghost use Rattle.qcow2_check.specs.ImageEnd.{findings_end, image_end, most_clusters};
+ghost use Rattle.qcow2_summary.specs.ImageEnd.{findings_end, image_end, most_clusters};
 ghost use Rattle.qcow2_metadata.specs.Results.{Answers, IsFromOutside};
 ghost use Rattle.qcow2_session.specs.Commands.Check.Account.{checked_account};
 ghost use Rattle.qcow2_session.specs.Commands.Check.Runs.{runs_of, single};
@@ -14,10 +14,9 @@ ghost use Rattle.qcow2_session.specs.Commands.Check.Totals.{run_totals, totals_o
 use super::runs::FindingRun;
 use super::totals::Totals;
 use qcow2_base::{ClusterCount, Fault, Storage};
-use qcow2_check::{
-    EntryCounts, Finding, Findings, Flags, count_entries, end_of_image, most_clusters,
-};
+use qcow2_check::{Finding, Findings, Flags};
 use qcow2_metadata::Header;
+use qcow2_summary::{EntryCounts, count_entries, end_of_image, most_clusters};
 use std::alloc::Global;
 
 /// What a check finds of an image, in numbers.

@@ -1,6 +1,6 @@
 use Rattle.std.proofs.Common.{◌≡◌, ◌-◌, ◌∙◌, ap, refl, sym, rules, arith}
 use Rattle.qcow2_base.specs.Storage.{StorageState}
-use Rattle.qcow2_check.specs.ImageEnd.{most_clusters}
+use Rattle.qcow2_summary.specs.ImageEnd.{most_clusters}
 use Rattle.qcow2_layout.proofs.LayoutLemmas.{ends-by-limit, free-to-limit, run-of-image}
 use Rattle.qcow2_layout.specs.Layout.{LayoutState, MovesLayout, layout_tables}
 use Rattle.qcow2_layout.specs.declared.parts.Run.{Run}

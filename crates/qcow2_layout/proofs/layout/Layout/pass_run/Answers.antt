@@ -1,8 +1,9 @@
 use Rattle.std.proofs.Common.{◌≡◌, ℕ, ◌-◌, ◌*◌, ◌^◌, ◌∙◌, ap, rules, arith}
 use Rattle.qcow2_base.specs.Storage.{Image}
-use Rattle.qcow2_check.specs.ImageEnd.{most_clusters}
+use Rattle.qcow2_check.proofs.FindingsLemmas.{reads_twice}
+use Rattle.qcow2_summary.specs.ImageEnd.{most_clusters}
 use Rattle.qcow2_check.specs.Uses.{ImageTables}
-use Rattle.qcow2_layout.proofs.LayoutLemmas.{moves-twice, pieces-join, reads-twice, run-that-ends, same-tables}
+use Rattle.qcow2_layout.proofs.LayoutLemmas.{moves-twice, pieces-join, run-that-ends, same-tables}
 use Rattle.qcow2_layout.specs.Layout.{IsStretch, LayoutState, parts_for}
 use Rattle.qcow2_layout.specs.Parts.{part_at}
 use Rattle.qcow2_layout.specs.declared.parts.Part.{Part}
@@ -50,5 +51,5 @@ loop-end-preserved g c =
           c.byte_size-bytes.result c.in_ok-part.part c.in_ok-next.next kept.some more.0 (kept.one told) size (c.goes_on_as.ensures.0 c.if-not-goes_on_as.false) piece.1;
       reader = moves-twice c.loop-end.end old now first later c.piece-in-loop-end.new.self kept.storage kept.reader c.in_ok-next.ensures.reader.0;
       position = c.in_ok-next.ensures.reader.1 ∙ kept.position;
-      storage = reads-twice {B = Part × ℕ} c.loop-end.end (c.in_ok-next.next, c.in_ok-next.next_end) c.in_ok-next.next_end old now (g.S.Storage.state c.piece-in-loop-end.new.image) kept.storage (search rules);
+      storage = reads_twice {B = Part × ℕ} c.loop-end.end (c.in_ok-next.next, c.in_ok-next.next_end) c.in_ok-next.next_end old now (g.S.Storage.state c.piece-in-loop-end.new.image) kept.storage (search rules);
     }

@@ -1,6 +1,6 @@
 use Rattle.std.proofs.Common.{◌≡◌, ◌-◌, ◌<◌, ◌≤◌, Ok}
 use Rattle.qcow2_base.specs.Storage.{OnImage, OnlyReads}
-use Rattle.qcow2_check.specs.ImageEnd.{most_clusters}
+use Rattle.qcow2_summary.specs.ImageEnd.{most_clusters}
 use Rattle.qcow2_layout.specs.Layout.{AreOne, MovesLayout, parts_for}
 use Rattle.qcow2_layout.proofs.layout.Layout.pass_run.Given as goal
 

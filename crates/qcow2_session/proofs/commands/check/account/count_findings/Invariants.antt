@@ -1,7 +1,7 @@
 use Rattle.std.proofs.Common.{◌≡◌, ◌-◌, ◌≤◌, Ok}
 use Rattle.qcow2_base.specs.Format.{max_file_length}
 use Rattle.qcow2_base.specs.Storage.{OnImage, OnlyReads}
-use Rattle.qcow2_check.proofs.ImageEndLemmas.{last_below}
+use Rattle.qcow2_summary.proofs.ImageEndLemmas.{last_below}
 use Rattle.qcow2_check.specs.Findings.{IsFindingsOf, MovesFindings, findings_left}
 use Rattle.qcow2_session.proofs.AccountLemmas.{both}
 use Rattle.qcow2_session.specs.Commands.Check.Runs.{runs_of}

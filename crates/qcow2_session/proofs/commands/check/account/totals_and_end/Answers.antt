@@ -1,7 +1,7 @@
 use Rattle.std.proofs.Common.{◌≡◌, rules, ap, ◌∙◌}
 use Rattle.qcow2_check.specs.Findings.{tables_of}
 use Rattle.qcow2_check.specs.Flags.{flag_tables, flags_left, image_flags}
-use Rattle.qcow2_check.specs.ImageEnd.{findings_end, image_end}
+use Rattle.qcow2_summary.specs.ImageEnd.{findings_end, image_end}
 use Rattle.qcow2_session.proofs.AccountLemmas.{tables-kept}
 use Rattle.qcow2_session.proofs.CheckLemmas.{known-before}
 use Rattle.qcow2_session.specs.Commands.Check.Totals.{with_flags}

@@ -1,0 +1,3 @@
+pub mod Consistency
+pub mod EntryCounts
+pub mod ImageEnd

@@ -1,0 +1,12 @@
+//! What a check says of an image as a whole: whether it is consistent, how many guest clusters are mapped,
+//! where it ends.
+#![tactic(auto)]
+
+mod consistency;
+mod entry_counts;
+mod image_end;
+pub mod laws;
+
+pub use consistency::is_consistent;
+pub use entry_counts::{EntryCounts, count_entries};
+pub use image_end::{end_of_image, most_clusters};
