@@ -2,6 +2,7 @@
 
 ghost use Rattle.std.specs.Prelude.{◌≡◌};
 ghost use Rattle.qcow2_base.specs.Storage.{OnImage};
+ghost use Rattle.qcow2_check.specs.Counters.{IsKeptBlockOf};
 ghost use Rattle.qcow2_check.specs.Findings.{IsFindingsOf};
 
 use super::places::{Place, entry_offset};
@@ -22,17 +23,36 @@ pub(super) fn cluster_refusal<S: Storage>(
     ensures unchanged { (S.state image.new).byte_at ≡ (S.state image.old).byte_at }
 {
     let mut findings = Findings::new(alloc, image, header)?;
+    match first_about(&mut findings, image, fault)? {
+        Some(finding) => Ok(Some(Refusal::at(alloc, fault, cluster_place(&finding))?)),
+        None => Ok(None),
+    }
+}
+
+// The first finding that a reader has left which is why a command is refused by a fault.
+fn first_about<S: Storage>(
+    findings: &mut Findings<'_>,
+    image: &mut S,
+    fault: Fault,
+) -> Result<Option<Finding>, Fault>
+    requires { OnImage (S.state image.old) (λ bytes. IsFindingsOf bytes findings.old) }
+    ensures unchanged { (S.state image.new).byte_at ≡ (S.state image.old).byte_at }
+{
     while let Some(finding) = findings.next(image)? {
         if is_about(fault, &finding) {
-            let place = Place::Cluster {
-                cluster: finding.cluster.0,
-                counter: finding.counter,
-                uses: finding.uses,
-            };
-            return Ok(Some(Refusal::at(alloc, fault, place)?));
+            return Ok(Some(finding));
         }
     }
     Ok(None)
+}
+
+// The cluster of a finding, with both its numbers.
+fn cluster_place(finding: &Finding) -> Place {
+    Place::Cluster {
+        cluster: finding.cluster.0,
+        counter: finding.counter,
+        uses: finding.uses,
+    }
 }
 
 // Whether a finding is why a command is refused by a fault.
@@ -54,12 +74,30 @@ pub(super) fn shared_table_refusal<S: Storage>(
 {
     let l1_table = load_l1_table(alloc, image, header)?;
     let mut counters = Counters::new(alloc, image, header)?;
+    match first_shared(&mut counters, image, &l1_table)? {
+        Some((l1_index, counter)) => {
+            let place = shared_place(header, &l1_table, l1_index, counter);
+            Ok(Some(Refusal::at(alloc, Fault::Shared(0), place)?))
+        }
+        None => Ok(None),
+    }
+}
+
+// The index of the first L1 entry whose L2 table may have another reference, and the counter of that table.
+fn first_shared<S: Storage>(
+    counters: &mut Counters<'_>,
+    image: &mut S,
+    l1_table: &L1Table,
+) -> Result<Option<(usize, u64)>, Fault>
+    requires { OnImage (S.state image.old) (λ bytes.
+        IsKeptBlockOf counters.old.header bytes counters.old.block) }
+    ensures unchanged { (S.state image.new).byte_at ≡ (S.state image.old).byte_at }
+{
     for l1_index in 0..l1_table.entries() {
-        if let Some(cluster) = named_cluster(&l1_table, l1_index) {
+        if let Some(cluster) = named_cluster(l1_table, l1_index) {
             let counter = counters.get(image, cluster)?;
             if counter != 1 || !l1_table.get(l1_index).is_copied() {
-                let place = shared_place(header, &l1_table, l1_index, counter);
-                return Ok(Some(Refusal::at(alloc, Fault::Shared(0), place)?));
+                return Ok(Some((l1_index, counter)));
             }
         }
     }

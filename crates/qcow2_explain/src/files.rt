@@ -6,15 +6,15 @@ use std::io;
 use std::io::ErrorKind;
 use std::rt::Files;
 
-/// The lines on a file that can't be opened to be read, by the system's word. For fault 34 there are lines on
-/// any file.
+/// The lines on a file that can't be opened to be read, and to be written to for fault 39, by the system's
+/// word. For fault 34 there are lines on any file.
 pub(super) fn file_lines<R: Files + AllocGlobal>(
     rt: &R,
     number: u64,
     path: &str,
 ) -> Result<Option<String>, Fault> {
     let alloc = rt.alloc();
-    Ok(match (try_open(rt, path, false), number) {
+    Ok(match (try_open(rt, path, number == 39), number) {
         (Err(error), 34) => Some(format!(in alloc; "in {path}: {error}\n")?),
         (Err(error), _) => Some(format!(in alloc;
             "in {path}: another fault comes first, 34\nin {path}: {error}\n"

@@ -25,11 +25,9 @@ pub fn fault_lines<R: Files + AllocGlobal>(
     if let Some(reason) = reason_elsewhere(number) {
         return Ok(format!(in rt.alloc(); "in {path}: {reason}\n")?);
     }
-    if number == 39 {
-        return lock_lines(rt, path);
-    }
     match file_lines(rt, number, path)? {
         Some(lines) => Ok(lines),
+        None if number == 39 => lock_lines(rt, path),
         None => locate_in_file(rt, number, path),
     }
 }

@@ -102,8 +102,9 @@ qmeta layout IMAGE svg
 
 Prints what each host cluster is, from 0 up to the last one in use, in lines `FIRST COUNT PART`. PART is one
 of `header`, `l1`, `l2`, `refcount-table`, `refcount-block`, `data OFFSET` with the guest offset of the first
-cluster, `compressed`, `leaked`, `free`. With `svg` it prints a picture with a legend, of at most 200 kB, for
-a browser. Only reads.
+cluster, `compressed`, `leaked`, `free`. One that is used as several is the first of `header`, `l1`,
+`refcount-table`, `refcount-block`, `l2`, and else what the lowest guest offset has there. With `svg` it
+prints a picture with a legend, of at most 200 kB, for a browser. Only reads.
 
 Status 0: printed. 1: a fault; only 34 and 35 come after a line. Faults: those of `check` without `repair`.
 

@@ -10,8 +10,8 @@ use qcow2_base::{GuestOffset, HostCluster};
 // The number of guest data at offset 0. Each number below stands for another part.
 const DATA_CODE: u64 = 9;
 
-/// What a cluster of an image is. One that is used as several is the first that stands here, of guest data and
-/// compressed data that of the lowest guest offset.
+/// What a cluster of an image is. One that is used as several is the first that stands here, and of guest
+/// data and compressed data what the lowest guest offset has there.
 #[derive(Clone, Copy, Debug, PartialEq, Eq)]
 pub enum Part {
     /// The header's cluster, which is cluster 0.

@@ -1,4 +1,4 @@
-use Rattle.std.proofs.Common.{◌≡◌, ℕ, [], ◌∷◌, replicate, inl, inr, refl, arith}
+use Rattle.std.proofs.Common.{◌≡◌, [], ◌∷◌, replicate, inl, inr, refl, arith}
 use Rattle.qcow2_layout.specs.declared.parts.Part.TheVariants.{Data}
 use Rattle.qcow2_picture.specs.Picture.{IsScale, shade_of, shapes_of}
 

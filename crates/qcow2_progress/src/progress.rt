@@ -82,7 +82,8 @@ impl<'a, C: Clock, E: Write + Copy> Progress<'a, C, E> {
         }
     }
 
-    // Counts a table whose first bytes are read. Where all were begun in this pass, it is the first of the next.
+    // Counts a table whose first bytes are read. Where all were begun in this pass, it is the first of the
+    // next.
     fn begin(&self, table: &WatchedTable) {
         let all = self.tables.len() as u64;
         if table.pass.get() == self.pass.get() {

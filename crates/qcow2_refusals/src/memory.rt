@@ -39,12 +39,12 @@ pub(crate) struct Memory<'a, O> {
 impl<O: Write> Memory<'_, O> {
     /// Makes the runs.
     pub(crate) fn make_all(&mut self) {
-        self.make_each(headers::RUNS);
-        self.make_each(tables::RUNS);
-        self.make_each(blocks::RUNS);
-        self.make_each(new_values::RUNS);
-        self.make_each(lists::RUNS);
-        self.make_each(sessions::RUNS);
+        self.make_each(headers::runs());
+        self.make_each(tables::runs());
+        self.make_each(blocks::runs());
+        self.make_each(new_values::runs());
+        self.make_each(lists::runs());
+        self.make_each(sessions::runs());
     }
 
     fn make_each(&mut self, runs: &[Run]) {

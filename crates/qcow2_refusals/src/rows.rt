@@ -1,4 +1,4 @@
-//! The runs.
+//! The runs. One function names each table, since each that does pays in its proof for all rows.
 
 pub(crate) mod blocks;
 pub(crate) mod headers;

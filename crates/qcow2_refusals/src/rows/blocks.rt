@@ -18,7 +18,12 @@ macro_rules! of_order {
     };
 }
 
-pub(crate) const RUNS: &[Run] = rows! {
+/// The runs of this file.
+pub(crate) fn runs() -> &'static [Run] {
+    RUNS
+}
+
+const RUNS: &[Run] = rows! {
     of_order!(LOAD, 0), of_order!(WRITE, 0), of_order!(WRITE_IF_MODIFIED, 0),
     of_order!(LOAD, 1), of_order!(WRITE, 1), of_order!(WRITE_IF_MODIFIED, 1),
     of_order!(LOAD, 2), of_order!(WRITE, 2), of_order!(WRITE_IF_MODIFIED, 2),

@@ -9,7 +9,12 @@ use crate::runs::HeaderOf::{Disk, Named, New};
 use crate::runs::{EMPTY, Image, Numbers, Run};
 use qcow2_testing::rows;
 
-pub(crate) const RUNS: &[Run] = rows! {
+/// The runs of this file.
+pub(crate) fn runs() -> &'static [Run] {
+    RUNS
+}
+
+const RUNS: &[Run] = rows! {
     Run { call: LoadHeader { for_writing: false }, header: New(9, 4), image: Some(DISK),
         changes: &[(4, 0x8000), (5, 0x200), (6, 1), (9, 0)], ..RUN },
     // a load that clears autoclear features, and one that lengthens the image

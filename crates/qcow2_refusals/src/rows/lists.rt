@@ -5,7 +5,12 @@ use crate::runs::Call::{EditSettled, EditTable, EditUnsettled, StepBlock};
 use crate::runs::{Image, Run};
 use qcow2_testing::rows;
 
-pub(crate) const RUNS: &[Run] = rows! {
+/// The runs of this file.
+pub(crate) fn runs() -> &'static [Run] {
+    RUNS
+}
+
+const RUNS: &[Run] = rows! {
     EDITED, STEPPED, SETTLED, UNSETTLED,
     Run { modified: true, ..EDITED }, Run { modified: true, ..STEPPED },
     Run { modified: true, ..SETTLED }, Run { modified: true, ..UNSETTLED },

@@ -7,7 +7,12 @@ use crate::runs::Call::{
 use crate::runs::{Image, Run};
 use qcow2_testing::rows;
 
-pub(crate) const RUNS: &[Run] = rows! {
+/// The runs of this file.
+pub(crate) fn runs() -> &'static [Run] {
+    RUNS
+}
+
+const RUNS: &[Run] = rows! {
     Run { call: NewHeader, reports: "Some(\"base.img\")Some(\"qcow2\")Some(\"data.raw\")", ..OF_ONE_ENTRY },
     Run { call: CopyExtension,
         reports: "BackingFileFormat(\"qcow2\")BackingFileFormat(\"qcow2\")", ..OF_ONE_ENTRY },

@@ -9,7 +9,12 @@ use crate::runs::HeaderOf::{Disk, New, OfImage};
 use crate::runs::{EMPTY, Image, Numbers, Run};
 use qcow2_testing::rows;
 
-pub(crate) const RUNS: &[Run] = rows! {
+/// The runs of this file.
+pub(crate) fn runs() -> &'static [Run] {
+    RUNS
+}
+
+const RUNS: &[Run] = rows! {
     Run { call: EditImage, header: New(16, 4),
         image: Some(Image { len: 131_072, zeros: (0, 131_072), ..EMPTY }),
         after: &[(65536, 0x8000_0000_0005_0000), (131_064, 0x8000_0000_0006_0000)],

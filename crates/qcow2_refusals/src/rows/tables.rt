@@ -19,7 +19,12 @@ macro_rules! run {
     };
 }
 
-pub(crate) const RUNS: &[Run] = rows! {
+/// The runs of this file.
+pub(crate) fn runs() -> &'static [Run] {
+    RUNS
+}
+
+const RUNS: &[Run] = rows! {
     Run { modified: true, image: WRITTEN, changes: &[(0, 0)], ..run!(Load, L1Table, &[]) },
     Run { modified: true, image: WRITTEN, changes: &[(1, 0)], ..run!(Load, L2Table, &[]) },
     Run { modified: true, image: WRITTEN, changes: &[(2, 0)], ..run!(Load, Reftable, &[]) },

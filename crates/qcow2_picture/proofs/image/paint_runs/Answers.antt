@@ -1,8 +1,8 @@
-use Rattle.std.proofs.Common.{ap, arith, refl, rules, subst, sym, ◌≡◌, ◌∙◌, ◌≤◌, ℕ}
+use Rattle.std.proofs.Common.{ap, arith, refl, rules, sym, ◌∙◌, ◌≤◌}
 use Rattle.qcow2_check.proofs.FindingsLemmas.{reads_twice}
 use Rattle.qcow2_layout.specs.Layout.{layout_tables}
 use Rattle.qcow2_layout.specs.Parts.{taken_end}
-use Rattle.qcow2_picture.proofs.ImageLemmas.{end-known, run-known, run-shades}
+use Rattle.qcow2_picture.proofs.ImageLemmas.{end-known, run-known}
 use Rattle.qcow2_picture.proofs.image.paint_runs.Goals as goal
 
 pub loop-run-preserved : goal.loop-run-preserved

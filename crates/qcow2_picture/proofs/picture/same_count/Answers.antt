@@ -1,4 +1,4 @@
-use Rattle.std.proofs.Common.{◌∙◌, ap, arith, sym, ◌+◌}
+use Rattle.std.proofs.Common.{arith}
 use Rattle.qcow2_picture.proofs.PictureLemmas.{same-ends, same-more, same-stops}
 use Rattle.qcow2_picture.proofs.picture.same_count.Goals as goal
 

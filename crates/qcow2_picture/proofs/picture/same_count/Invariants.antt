@@ -1,4 +1,4 @@
-use Rattle.std.proofs.Common.{◌≡◌, ℕ, ◌+◌, drop}
+use Rattle.std.proofs.Common.{◌≡◌, ◌+◌, drop}
 use Rattle.qcow2_picture.specs.Picture.{same_count}
 use Rattle.qcow2_picture.proofs.picture.same_count.Given as goal
 

@@ -1,4 +1,4 @@
-use Rattle.std.proofs.Common.{◌∙◌, ap, arith, length, rules}
+use Rattle.std.proofs.Common.{◌∙◌, arith, length, rules}
 use Rattle.qcow2_picture.proofs.PictureLemmas.{shapes-all, shapes-more}
 use Rattle.qcow2_picture.specs.Picture.{shapes_at}
 use Rattle.qcow2_picture.proofs.picture.shapes_of.Goals as goal

@@ -1,7 +1,7 @@
 use Rattle.std.proofs.Common.{Ok}
 use Rattle.qcow2_base.specs.Storage.{OnlyReads}
 use Rattle.qcow2_check.specs.Counters.{IsSameButBlock}
-use Rattle.qcow2_explain.proofs.clusters.shared_table_refusal.Given as goal
+use Rattle.qcow2_explain.proofs.clusters.first_shared.Given as goal
 
 -- the reader reads the same image, of which no byte has changed
 abbrev pub invariant-loop-l1_index : goal.invariant-loop-l1_index
