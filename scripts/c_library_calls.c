@@ -121,6 +121,35 @@ static void check_lengths(void) {
     expect("zq_header_read of NULL", 0, zq_header_read(NULL, 0, &header), ZQ_WRONG_LENGTH);
 }
 
+/* Lengths that no object has. A table or block of such a length is refused before a byte of it is read, by zq_l2_check where
+ * it has no whole entries. Of a header only the first cluster is read, whatever follows. */
+static void check_longest(void) {
+    static const size_t lengths[] = {(size_t)1 << 63, ((size_t)1 << 63) - 8, ((size_t)1 << 63) + 8, SIZE_MAX - 7, SIZE_MAX};
+    static const zq_edit edit = {4, 0, 0, 0};
+    uint8_t bytes[65536];
+    make_cluster(bytes);
+    zq_header header;
+    expect("zq_header_read of the cluster", 0, zq_header_read(bytes, sizeof bytes, &header), ZQ_OK);
+    for (size_t i = 0; i < sizeof lengths / sizeof *lengths; i++) {
+        size_t length = lengths[i], index, count, freed, gained, bad;
+        const uint8_t *whole = guarded(bytes, sizeof bytes), *none = guarded(bytes, 0);
+        uint8_t *table = (uint8_t *)(uintptr_t)none;
+        FILL(index);
+        FILL(count);
+        expect("zq_header_bytes of row", i, zq_header_bytes(whole, length, &index), ZQ_OK);
+        expect("zq_header_read of row", i, zq_header_read(whole, length, &header), ZQ_OK);
+        FILL(index);
+        expect("zq_l2_check of row", i, zq_l2_check(none, length | 1, &header, &index), ZQ_WRONG_LENGTH);
+        EXPECT_UNTOUCHED("index after row", i, index);
+        expect("zq_l2_extents of row", i, zq_l2_extents(none, length, &header, 0, NULL, 0, &count), ZQ_WRONG_LENGTH);
+        EXPECT_UNTOUCHED("count after row", i, count);
+        expect("zq_refcounts_read of row", i, zq_refcounts_read(none, length, 4, 0, NULL, 0), ZQ_WRONG_LENGTH);
+        expect("zq_refcounts_settle of row", i, zq_refcounts_settle(table, length, 4, 0, NULL, 0, NULL, 0), ZQ_WRONG_LENGTH);
+        expect("zq_l2_edit of row", i,
+               zq_l2_edit(table, length, &header, &edit, 1, NULL, 0, &freed, NULL, 0, &gained, &bad), ZQ_WRONG_LENGTH);
+    }
+}
+
 static void check_fields(void) {
     uint8_t bytes[65536];
     for (size_t i = 0; i < sizeof fields / sizeof *fields; i++) {
@@ -1045,6 +1074,7 @@ int main(int count, char **words) {
         return print_file(words[2], is_map ? print_map : is_check ? print_check : print_lookups);
     }
     check_lengths();
+    check_longest();
     check_fields();
     check_all_fields();
     check_made_up();
