@@ -1,0 +1,77 @@
+//! Whether steps of counters are undone by the opposite ones, and count from what `refcount` prints.
+
+use super::drawn;
+use crate::kinds::Kind;
+use crate::numbers::u64_at;
+use crate::random::Random;
+use crate::trial::Trial;
+use qcow2_base::Fault;
+use std::io::Write;
+
+/// Makes a step of a counter, and then the opposite one, and reports what isn't as before.
+pub(crate) fn check_undone<O: Write>(
+    trial: &mut Trial<'_, O>,
+    random: &mut Random,
+) -> Result<(), Fault> {
+    let fields = trial.fields;
+    let number = u64_at(trial.before, fields.reftable_offset);
+    let block = fields.cluster_of(number);
+    // a block of a valid number, which isn't the header's cluster
+    if fields.within_cluster(number) != 0 || block == 0 {
+        return Ok(());
+    }
+    let index = random.below(fields.block_entries());
+    let (step, undo) = if random.is_one_in(2) {
+        ("inc", "dec")
+    } else {
+        ("dec", "inc")
+    };
+    let refcount = format!(in trial.alloc; "refcount IMAGE {index}")?;
+    let counter = match trial.run(Kind::Refcount, refcount.as_str())? {
+        Ok(_) => Some(String::from_str(trial.alloc, trial.printed())?),
+        Err(_) => None,
+    };
+    let line = format!(in trial.alloc; "count IMAGE {block} {step}:{index}")?;
+    if trial.run(Kind::Count, line.as_str())?.is_err() {
+        return trial.restore();
+    }
+    let is_refused = trial.printed() == "refused\n";
+    let holds = is_refused || counter.is_none_or(|counter| is_counter(trial, &counter, index));
+    trial.unless(holds, line.as_str(), "the counter of `refcount`", "another");
+    if !is_refused {
+        let line = format!(in trial.alloc; "count IMAGE {block} {undo}:{index}")?;
+        let undone = trial.run(Kind::Count, line.as_str())?;
+        trial.unless(undone.is_ok(), line.as_str(), "status 0", "a fault");
+    }
+    let holds = trial.has_bytes_but_header(trial.before);
+    trial.unless(
+        holds,
+        line.as_str(),
+        "each byte as before, once undone",
+        "others",
+    );
+    trial.restore()
+}
+
+// Whether a step prints the counter that `refcount` printed of its cluster.
+fn is_counter<O: Write>(trial: &Trial<'_, O>, counter: &String, index: u64) -> bool {
+    let Ok(expected) = format!(in trial.alloc; "{index} ") else {
+        return false;
+    };
+    let before = counter.as_str().strip_prefix(expected.as_str());
+    before.is_some() && trial.printed().strip_prefix("ok ") == before
+}
+
+/// Makes steps that may be any.
+pub(crate) fn run_any<O: Write>(
+    trial: &mut Trial<'_, O>,
+    random: &mut Random,
+) -> Result<(), Fault> {
+    let fields = trial.fields;
+    let block = drawn::cluster(&fields, random);
+    let first = drawn::index(fields.block_entries(), random);
+    let second = drawn::index(fields.block_entries(), random);
+    let line = format!(in trial.alloc; "count IMAGE {block} dec:{first} inc:{second}")?;
+    let _answer = trial.run(Kind::Count, line.as_str())?;
+    trial.restore()
+}

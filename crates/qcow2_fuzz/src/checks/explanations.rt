@@ -1,0 +1,30 @@
+//! Whether `explain` finds each fault that a command gave of the image.
+
+use super::readings::Readings;
+use crate::trial::Trial;
+use qcow2_base::Fault;
+use std::io::Write;
+
+/// What `explain` says where it finds no fault.
+const NONE: &str = "in IMAGE: this image doesn't have this fault\n";
+
+/// Looks for the fault of `check`, or else of `list`.
+pub(crate) fn check_faults<O: Write>(
+    trial: &mut Trial<'_, O>,
+    readings: &Readings,
+) -> Result<(), Fault> {
+    match (readings.check, readings.list) {
+        (Err(fault), _) | (_, Err(fault)) => check_fault(trial, fault),
+        _ => Ok(()),
+    }
+}
+
+/// Looks for a fault.
+pub(crate) fn check_fault<O: Write>(trial: &mut Trial<'_, O>, fault: Fault) -> Result<(), Fault> {
+    let number = fault.number();
+    let lines = trial.explain(number)?;
+    let is_found = lines.as_str() != NONE && lines.as_str().starts_with("in IMAGE: ");
+    let line = format!(in trial.alloc; "explain {number} IMAGE")?;
+    trial.unless(is_found, line.as_str(), "where the fault is", "nothing");
+    Ok(())
+}

@@ -1,0 +1,46 @@
+//! Whether a repair leaves what it prints, needs no second one, and keeps what the disk reads as.
+
+use super::readings::Readings;
+use crate::kinds::Kind;
+use crate::text::{extents_in, totals_in};
+use crate::trial::Trial;
+use qcow2_base::Fault;
+use std::io::Write;
+
+/// Repairs the image, and reports what isn't so.
+pub(crate) fn check_repair<O: Write>(
+    trial: &mut Trial<'_, O>,
+    readings: &Readings,
+) -> Result<(), Fault> {
+    let line = "check IMAGE repair";
+    let repair = trial.run(Kind::Repair, line)?;
+    if repair.is_err() {
+        return trial.restore();
+    }
+    let printed = trial.take_printed();
+    let repaired = Vec::from_slice(trial.alloc, trial.bytes())?;
+    let check = trial.run(Kind::Check, "check IMAGE")?;
+    let is_same = check == repair && trial.printed().as_bytes() == printed.as_slice();
+    trial.unless(is_same, line, "what `check` prints then", "other findings");
+    // left are clusters that no block counts, and flags of entries that name them
+    let is_repaired = totals_in(trial.printed()).is_some_and(|totals| totals.leaked == 0
+        && totals.shared == 0
+        && totals.late_flags == 0);
+    trial.unless(
+        is_repaired,
+        line,
+        "missing clusters and false flags at most",
+        "others",
+    );
+    let again = trial.run(Kind::Repair, line)?;
+    let is_same = again == repair && trial.printed().as_bytes() == printed.as_slice();
+    trial.unless(is_same, line, "the same, once repaired", "another end");
+    let is_kept = trial.bytes() == repaired.as_slice();
+    trial.unless(is_kept, line, "each byte kept by a second repair", "others");
+    let map = trial.run(Kind::Map, "map IMAGE")?;
+    let extents = extents_in(trial.alloc, trial.printed())?;
+    let is_kept = map == readings.map
+        && extents.is_some_and(|extents| extents.as_slice() == readings.extents.as_slice());
+    trial.unless(is_kept, line, "a disk that reads as before", "another one");
+    trial.restore()
+}

@@ -1,0 +1,134 @@
+//! Runs each command of `qmeta` on hostile images in memory, and looks whether what they print and leave
+//! agrees. `scripts/fuzz` runs it.
+//!
+//! Words: SEED COUNT [FILE..]. It draws an image for SEED, one for the seed after that, and so on, until
+//! COUNT runs of commands are made. Some are changed copies of the files, the others are made. Each run that
+//! isn't as it must be has a line with the image's own seed: with that and the same files the image is drawn
+//! first. With COUNT 0 it writes the bytes of that image to standard output.
+#![tactic(auto)]
+
+mod checks;
+mod fields;
+mod images;
+mod kinds;
+mod mutations;
+mod numbers;
+mod random;
+mod storage;
+mod text;
+mod trial;
+
+use crate::random::Random;
+use crate::trial::{Tally, Trial};
+use qcow2_base::Fault;
+use std::alloc::Global;
+use std::io::Write;
+use std::process::ExitCode;
+use std::{env, fs};
+
+// What words ask for.
+#[derive(Drop)]
+struct Asked {
+    seed: u64,
+    count: u64,
+    files: Vec<Vec<u8>>,
+}
+
+fn main(rt: HostRuntime) -> ExitCode {
+    match run(&rt) {
+        Ok(true) => ExitCode::SUCCESS,
+        Ok(false) => ExitCode::FAILURE,
+        Err(fault) => {
+            let _ = eprintln!(rt; "qcow2_fuzz: {fault}");
+            ExitCode::FAILURE
+        }
+    }
+}
+
+// Makes the runs that words ask for, and returns whether all are as they must be.
+fn run(rt: &HostRuntime) -> Result<bool, Fault> {
+    let Some(asked) = asked_by(rt)? else {
+        let _ = eprintln!(rt; "usage: qcow2_fuzz SEED COUNT [FILE..]");
+        return Ok(false);
+    };
+    if asked.count == 0 {
+        let image = drawn_image(rt.alloc(), &mut Random::new(asked.seed), &asked.files)?;
+        return Ok(rt.stdout().write_all(&image).is_ok());
+    }
+    try_images(rt, &asked)
+}
+
+// What words ask for, if they ask for something.
+fn asked_by(rt: &HostRuntime) -> Result<Option<Asked>, Fault> {
+    let Ok(arguments) = env::args(rt) else {
+        return Ok(None);
+    };
+    let words: Vec<String> = arguments.skip(1).collect(rt.alloc())?;
+    let [seed, count, paths @ ..] = words.as_slice() else {
+        return Ok(None);
+    };
+    let (Ok(seed), Ok(count)) = (seed.parse::<u64>(), count.parse::<u64>()) else {
+        return Ok(None);
+    };
+    let files = read_files(rt, paths)?;
+    Ok(Some(Asked { seed, count, files }))
+}
+
+// The bytes of files.
+fn read_files(rt: &HostRuntime, paths: &[String]) -> Result<Vec<Vec<u8>>, Fault> {
+    let mut files = Vec::new(rt.alloc());
+    for path in paths {
+        match fs::read(rt, path.as_str()) {
+            Ok(bytes) => files.push(bytes)?,
+            Err(_) => return Err(Fault::Storage),
+        }
+    }
+    Ok(files)
+}
+
+// Tries image after image until enough runs are made, and prints how many were.
+fn try_images(rt: &HostRuntime, asked: &Asked) -> Result<bool, Fault> {
+    let mut tally = Tally {
+        runs: 0,
+        faults: 0,
+        wrong: 0,
+    };
+    for seed in asked.seed..u64::MAX {
+        if tally.runs >= asked.count {
+            break;
+        }
+        try_image(rt, seed, &asked.files, &mut tally)?;
+    }
+    let Tally {
+        runs,
+        faults,
+        wrong,
+    } = tally;
+    let is_told = println!(rt; "runs {runs} faults {faults} wrong {wrong}").is_ok();
+    Ok(is_told && wrong == 0)
+}
+
+// Runs all commands on the image of a seed.
+fn try_image(
+    rt: &HostRuntime,
+    seed: u64,
+    files: &[Vec<u8>],
+    tally: &mut Tally,
+) -> Result<(), Fault> {
+    let mut random = Random::new(seed);
+    let image = drawn_image(rt.alloc(), &mut random, files)?;
+    let mut out = rt.stdout();
+    let mut trial = Trial::new(rt.alloc(), seed, &image, tally, &mut out)?;
+    checks::check_image(&mut trial, &mut random)
+}
+
+// An image: a made one, or where there are files, one of these as often, with changes.
+fn drawn_image(alloc: Global, random: &mut Random, files: &[Vec<u8>]) -> Result<Vec<u8>, Fault> {
+    let index = random.below((files.len() as u64).saturating_mul(2)) as usize;
+    let mut image = match files.get(index) {
+        Some(file) => Vec::from_slice(alloc, file)?,
+        None => images::made_image(alloc, random)?,
+    };
+    mutations::mutate(&mut image, random)?;
+    Ok(image)
+}

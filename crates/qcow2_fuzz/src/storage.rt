@@ -1,0 +1,85 @@
+//! An image in memory that takes no byte past a length. So one whose tables lie far away can't ask for all
+//! memory there is.
+
+ghost use Rattle.std.specs.Prelude.{◌≡◌, ◌+◌, ◌^◌, ◌%◌, IsErr};
+
+use qcow2_base::{Storage, StorageFault};
+
+/// How long an image gets at most, in bytes.
+pub(crate) const MOST_BYTES: u64 = 1 << 20;
+
+/// A storage that passes its calls on to another, but for writes that end past a length.
+#[derive(Drop)]
+pub(crate) struct BoundedStorage<S> {
+    /// The storage that calls are passed on to.
+    pub(crate) inner: S,
+    failures: u64,
+    is_written: bool,
+}
+
+impl<S> BoundedStorage<S> {
+    /// Passes all calls on to this storage.
+    pub(crate) fn new(inner: S) -> BoundedStorage<S> {
+        BoundedStorage {
+            inner,
+            failures: 0,
+            is_written: false,
+        }
+    }
+
+    /// Whether a write was refused.
+    pub(crate) fn has_failed(&self) -> bool {
+        self.failures != 0
+    }
+
+    /// Whether a write was asked for.
+    pub(crate) fn is_written(&self) -> bool {
+        self.is_written
+    }
+
+    // Counts one more failed call.
+    fn fail(&mut self) -> Result<(), StorageFault>
+        ensures err { IsErr result }
+        ensures counted { self.new ≡ record self.old { failures = (self.old.failures + 1) % 2 ^ 64 } }
+    {
+        self.failures = self.failures.wrapping_add(1);
+        Err(StorageFault)
+    }
+}
+
+impl<S: Storage> Storage for BoundedStorage<S> {
+    ghost state = { λ b. record (S.state b.inner) { failures = b.failures } };
+
+    fn mem_align(&self) -> usize {
+        self.inner.mem_align()
+    }
+
+    fn req_align(&self) -> usize {
+        self.inner.req_align()
+    }
+
+    fn read(&mut self, buf: &mut [u8], offset: u64) -> Result<(), StorageFault> {
+        if let Ok(()) = self.inner.read(buf, offset) {
+            return Ok(());
+        }
+        self.fail()
+    }
+
+    fn write(&mut self, buf: &[u8], offset: u64) -> Result<(), StorageFault> {
+        self.is_written = true;
+        if offset.saturating_add(buf.len() as u64) <= MOST_BYTES
+            && let Ok(()) = self.inner.write(buf, offset)
+        {
+            return Ok(());
+        }
+        self.fail()
+    }
+
+    ghost mem_align_is_power = { λ b. S.mem_align_is_power b.inner };
+
+    ghost req_align_is_power = { λ b. S.req_align_is_power b.inner };
+
+    ghost byte_fits = { λ b offset. S.byte_fits b.inner offset };
+
+    ghost ends = { λ b. S.ends b.inner };
+}

@@ -1,0 +1,278 @@
+//! An image that commands run on, and what each run must keep.
+
+use crate::fields::Fields;
+use crate::kinds::{Kind, LAST_OF_HEADER, STORAGE};
+use crate::storage::BoundedStorage;
+use qcow2_base::{Fault, MemStorage};
+use qcow2_calls::{parse_command, run};
+use qcow2_session::Verdict;
+use qcow2_session::commands::locate_fault;
+use std::alloc::Global;
+use std::io::Write;
+use std::mem;
+
+/// What a command returns.
+pub(crate) type Answer = Result<Verdict, Fault>;
+
+/// How many runs were made, how many of them ended in a fault, and how many aren't as they must be.
+#[derive(Clone, Copy)]
+pub(crate) struct Tally {
+    pub(crate) runs: u64,
+    pub(crate) faults: u64,
+    pub(crate) wrong: u64,
+}
+
+/// An image as it was made, as commands left it, and where to report what is wrong.
+#[derive(Drop)]
+pub(crate) struct Trial<'a, O> {
+    pub(crate) alloc: Global,
+    pub(crate) seed: u64,
+    pub(crate) tally: &'a mut Tally,
+    pub(crate) report: &'a mut O,
+    pub(crate) before: &'a [u8],
+    pub(crate) fields: Fields,
+    image: BoundedStorage<MemStorage>,
+    /// Whether the image is as it was made.
+    is_fresh: bool,
+    /// The fault of the image's header, once it is known.
+    header_fault: Option<Fault>,
+    printed: Vec<u8>,
+    /// How many runs this image had.
+    runs: u64,
+}
+
+impl<'a, O: Write> Trial<'a, O> {
+    /// The image of these bytes, on which nothing has run.
+    pub(crate) fn new(
+        alloc: Global,
+        seed: u64,
+        before: &'a [u8],
+        tally: &'a mut Tally,
+        report: &'a mut O,
+    ) -> Result<Trial<'a, O>, Fault> {
+        Ok(Trial {
+            alloc,
+            seed,
+            tally,
+            report,
+            before,
+            fields: Fields::of(before),
+            image: image_of(alloc, before)?,
+            is_fresh: true,
+            header_fault: None,
+            printed: Vec::new(alloc),
+            runs: 0,
+        })
+    }
+
+    /// Makes the image as it was.
+    pub(crate) fn restore(&mut self) -> Result<(), Fault> {
+        if self.image.is_written() {
+            self.image = image_of(self.alloc, self.before)?;
+            self.is_fresh = true;
+        }
+        Ok(())
+    }
+
+    /// Runs the command of a line, whose second word is the image, and reports what doesn't hold of every
+    /// run.
+    pub(crate) fn run(&mut self, kind: Kind, line: &str) -> Result<Answer, Fault> {
+        let was_fresh = self.is_fresh;
+        self.begin();
+        let Some(answer) = self.answer_of(line)? else {
+            self.wrong(line, "a command", "words that are none");
+            return Err(Fault::WrongLength);
+        };
+        self.end(kind, line, &answer, was_fresh)?;
+        Ok(answer)
+    }
+
+    // Counts one more run, which has printed nothing yet.
+    fn begin(&mut self) {
+        self.tally.runs = self.tally.runs.saturating_add(1);
+        self.runs = self.runs.saturating_add(1);
+        self.printed.clear();
+    }
+
+    // What the command of a line returns, if it is one.
+    fn answer_of(&mut self, line: &str) -> Result<Option<Answer>, Fault> {
+        let words = words_of(self.alloc, line)?;
+        let [name, _, arguments @ ..] = words.as_slice() else {
+            return Ok(None);
+        };
+        match parse_command(self.alloc, name.as_str(), "IMAGE", arguments) {
+            Some(Ok(command)) => {
+                let printed = &mut self.printed;
+                Ok(Some(run(self.alloc, &mut self.image, &command, printed)))
+            }
+            Some(Err(error)) => Err(Fault::from(error)),
+            None => Ok(None),
+        }
+    }
+
+    // Counts the fault of a run, and reports what isn't as it must be after each.
+    fn end(
+        &mut self,
+        kind: Kind,
+        line: &str,
+        answer: &Answer,
+        was_fresh: bool,
+    ) -> Result<(), Fault> {
+        match answer {
+            Ok(verdict) => {
+                let is_check = matches!(kind, Kind::Check | Kind::Repair);
+                self.unless(
+                    is_check || *verdict == Verdict::Fine,
+                    line,
+                    "status 0",
+                    "another",
+                );
+            }
+            Err(fault) => self.check_fault(kind, line, *fault)?,
+        }
+        if was_fresh {
+            self.check_header(kind, line, answer)?;
+            self.check_bytes(kind, line, answer);
+        }
+        if kind.changes() {
+            self.is_fresh = self.is_kept();
+        }
+        Ok(())
+    }
+
+    // Reports a fault that the command can't give here, and lines before one that has none.
+    fn check_fault(&mut self, kind: Kind, line: &str, fault: Fault) -> Result<(), Fault> {
+        self.tally.faults = self.tally.faults.saturating_add(1);
+        let number = fault.number();
+        if !kind.may_give(number) || number == STORAGE && !self.image.has_failed() {
+            let found = format!(in self.alloc; "fault {number}")?;
+            self.wrong(line, "a fault of this command", found.as_str());
+        }
+        let is_well = kind.prints_before_faults() || number == STORAGE || self.printed.is_empty();
+        self.unless(is_well, line, "no line before the fault", "lines");
+        Ok(())
+    }
+
+    // Reports a command that finds another fault of the header than `info` did.
+    fn check_header(&mut self, kind: Kind, line: &str, answer: &Answer) -> Result<(), Fault> {
+        if !kind.reads_header() || kind == Kind::Info {
+            return Ok(());
+        }
+        let found = match answer {
+            Err(fault) if fault.number() <= LAST_OF_HEADER => Some(*fault),
+            _ => None,
+        };
+        if found != self.header_fault {
+            let expected = format!(in self.alloc; "{:?} of the header", self.header_fault)?;
+            let found = format!(in self.alloc; "{found:?}")?;
+            self.wrong(line, expected.as_str(), found.as_str());
+        }
+        Ok(())
+    }
+
+    // Reports bytes that have changed though they may not: by a command that only reads, or after a fault.
+    // `edit` and `count` may have written the header without autoclear features. What edits of the disk leave
+    // that are refused depends on the image.
+    fn check_bytes(&mut self, kind: Kind, line: &str, answer: &Answer) {
+        let is_refused = match answer {
+            Ok(_) => false,
+            Err(fault) => fault.number() != STORAGE,
+        };
+        if !kind.changes() || kind == Kind::Repair && is_refused {
+            let is_kept = self.is_kept();
+            self.unless(is_kept, line, "each byte as before", "others");
+        } else if is_refused && kind != Kind::Apply {
+            let is_kept = self.has_bytes_but_header(self.before);
+            self.unless(is_kept, line, "each byte as before", "others");
+        }
+    }
+
+    /// Runs `explain` of a fault's number, and returns its lines on the image.
+    pub(crate) fn explain(&mut self, number: u32) -> Result<String, Fault> {
+        self.begin();
+        let lines = locate_fault(self.alloc, &mut self.image, u64::from(number), "IMAGE")?;
+        let is_kept = self.is_kept() || !self.is_fresh;
+        self.unless(is_kept, "explain", "each byte as before", "others");
+        Ok(lines)
+    }
+
+    /// Whether the image has these bytes, or these and zeros after them. Of one that had autoclear features
+    /// the first cluster isn't looked at.
+    pub(crate) fn has_bytes_but_header(&self, bytes: &[u8]) -> bool {
+        let start = if self.fields.has_autoclear {
+            self.fields.cluster_size()
+        } else {
+            0
+        };
+        is_same_from(self.image.inner.bytes(), bytes, start as usize)
+    }
+
+    /// Whether the image has the bytes that it was made with.
+    pub(crate) fn is_kept(&self) -> bool {
+        !self.image.is_written() || self.image.inner.bytes() == self.before
+    }
+
+    /// The image's bytes as commands left them.
+    pub(crate) fn bytes(&self) -> &[u8] {
+        self.image.inner.bytes()
+    }
+
+    /// What the last command printed.
+    pub(crate) fn printed(&self) -> &str {
+        std::str::from_utf8(&self.printed).unwrap_or("")
+    }
+
+    /// The same, to be kept.
+    pub(crate) fn take_printed(&mut self) -> Vec<u8> {
+        let alloc = self.alloc;
+        mem::replace(&mut self.printed, Vec::new(alloc))
+    }
+
+    /// Notes what `info` found of the header.
+    pub(crate) fn set_header_fault(&mut self, fault: Option<Fault>) {
+        self.header_fault = fault;
+    }
+
+    /// Reports a run unless something holds.
+    pub(crate) fn unless(&mut self, holds: bool, line: &str, expected: &str, found: &str) {
+        if !holds {
+            self.wrong(line, expected, found);
+        }
+    }
+
+    /// Reports a run that isn't as it must be.
+    pub(crate) fn wrong(&mut self, line: &str, expected: &str, found: &str) {
+        self.tally.wrong = self.tally.wrong.saturating_add(1);
+        let (seed, run) = (self.seed, self.runs);
+        let _ = writeln!(
+            self.report,
+            "seed {seed} run {run}: {line}: expected {expected}, found {found}"
+        );
+    }
+}
+
+/// Whether bytes are the expected ones from a place on. The shorter ones count as if zeros followed.
+pub(crate) fn is_same_from(found: &[u8], expected: &[u8], start: usize) -> bool {
+    let end = found.len().min(expected.len());
+    let start = start.min(end);
+    found.get(start..end) == expected.get(start..end)
+        && are_zeros(found.get(end..).unwrap_or(&[]))
+        && are_zeros(expected.get(end..).unwrap_or(&[]))
+}
+
+fn are_zeros(bytes: &[u8]) -> bool {
+    bytes.iter().all(|byte| *byte == 0)
+}
+
+fn image_of(alloc: Global, bytes: &[u8]) -> Result<BoundedStorage<MemStorage>, Fault> {
+    Ok(BoundedStorage::new(MemStorage::new(Vec::from_slice(alloc, bytes)?)))
+}
+
+// The words of a line.
+fn words_of(alloc: Global, line: &str) -> Result<Vec<String>, Fault> {
+    let mut words = Vec::new(alloc);
+    for word in line.split(' ') {
+        words.push(String::from_str(alloc, word)?)?;
+    }
+    Ok(words)
+}
