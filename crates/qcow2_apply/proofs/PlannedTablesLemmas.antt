@@ -1,12 +1,9 @@
-use Rattle.std.proofs.Common.{◌≡◌, ◌≢◌, ◌⊎◌, ℕ, zero, suc, true, false, ◌+◌, ◌-◌, ◌%◌, ◌<◌, List, length, [], ◌∷◌, ◌++◌, slice_index, IsSome, Option, None, Some, Result, Ok, Err, OnOk, option_map, ap, refl, subst, sym, ◌∙◌, inl, inr, arith}
+use Rattle.std.proofs.Common.{◌≡◌, ◌⊎◌, ℕ, suc, true, ◌+◌, ◌-◌, ◌<◌, List, [], ◌∷◌, slice_index, IsSome, Option, None, Some, Ok, Err, option_map, ap, refl, subst, sym, ◌∙◌, inl, inr, arith}
 use Rattle.std.proofs.lemmas.Bool.{cases_Bool, cases_lt}
-use Rattle.std.proofs.lemmas.Bool.Decides.{nat_tests}
-use Rattle.std.proofs.lemmas.List.{length-append}
-use Rattle.std.proofs.lemmas.List.FromFn.{length-map-range_with_len}
 use Rattle.std.proofs.lemmas.List.Sums.{sum_by-append}
 use Rattle.std.specs.Option.{option_or}
-use Rattle.std.specs.List.{All, list_any, range_with_len, sum_by}
-use Rattle.qcow2_base.specs.Storage.{Image, OnlyReads, StorageState}
+use Rattle.std.specs.List.{All, range_with_len, sum_by}
+use Rattle.qcow2_base.specs.Storage.{Image, StorageState}
 use Rattle.qcow2_base.specs.declared.types.HostCluster.{HostCluster}
 use Rattle.qcow2_edits.specs.Edits.{cluster_numbers}
 use Rattle.qcow2_edits.specs.declared.edits.Edit.{Edit}
@@ -17,20 +14,21 @@ use Rattle.qcow2_metadata.specs.Placed.{numbers_at}
 use Rattle.qcow2_metadata.specs.Table.L2Guards.{RunEnd, handed_back, times_gained}
 use Rattle.qcow2_metadata.specs.declared.entries.ClustersToFreeEntry.{ClustersToFreeEntry}
 use Rattle.qcow2_check.specs.NamedTables.{named_cluster}
+use Rattle.qcow2_guest_edits.proofs.GuestEditsLemmas.{range-split}
 use Rattle.qcow2_check.specs.Uses.{ImageTables, image_tables}
-use Rattle.qcow2_apply.specs.Changes.{HasNone}
-use Rattle.qcow2_apply.specs.GuestEdits.{edit_at, edits_by, edits_in, has_clusters_in, table_end, table_start}
-use Rattle.qcow2_apply.specs.PlannedChanges.{AddsOutcome, HaveCounters}
+use Rattle.qcow2_changes.specs.Changes.{HasNone}
+use Rattle.qcow2_guest_edits.specs.GuestEdits.{edits_in}
+use Rattle.qcow2_changes.specs.PlannedChanges.{AddsOutcome, HaveCounters}
 use Rattle.qcow2_apply.specs.PlannedTables.{AddsTable, AreSources, IsPlanned, gained_at, lost_at, mapping_fault_in, planning_tables, run_at, run_gains, run_losses, table_refusal}
-use Rattle.qcow2_apply.specs.Tables.{MakesRun, run_in}
-use Rattle.qcow2_apply.specs.declared.guest_edits.GuestEdit.{GuestEdit}
-use Rattle.qcow2_apply.specs.declared.planned_changes.PlannedChanges.{PlannedChanges}
+use Rattle.qcow2_guest_edits.specs.Tables.{ComesToOutcome, run_in}
+use Rattle.qcow2_guest_edits.specs.declared.guest_edits.GuestEdit.{GuestEdit}
+use Rattle.qcow2_changes.specs.declared.planned_changes.PlannedChanges.{PlannedChanges}
 use Rattle.qcow2_apply.specs.declared.planned_tables.Sources.{Sources}
 use Rattle.qcow2_base.specs.declared.fault.Fault.{Fault}
 use Rattle.qcow2_base.specs.declared.fault.Fault.TheVariants.{NoMemory, Storage}
 use Rattle.qcow2_metadata.proofs.TableLemmas.{first_fault-append, first_fault-join}
 use Rattle.qcow2_metadata.specs.Results.{unless_refused}
-use Rattle.qcow2_metadata.specs.Table.{TableState, first_fault, l2_entries, l2_layout}
+use Rattle.qcow2_metadata.specs.Table.{TableState, first_fault, l2_layout}
 use Rattle.qcow2_check.specs.Counters.{CountersState, IsSameButBlock, block_of_cluster}
 
 -- a reader of counters that keeps another block reads the same tables
@@ -74,20 +72,6 @@ same-adds sources image old new before after index a b same bytes adds =
     subst (λ there. AddsTable (planning_tables sources old) sources.edits.now there index a b) bytes
     (subst (λ tables. AddsTable tables sources.edits.now after index a b) (same-tables sources image old new same) adds)
 
--- numbers in a row are the first of them and the others
-range-from : (a n m : ℕ) → range_with_len a (n + m) ≡ range_with_len a n ++ range_with_len (a + n) m
-range-from a zero m =
-    let whole : 0 + m ≡ m = omega arith in
-    let same : a ≡ a + 0 = omega arith in
-    ap (range_with_len a) whole ∙ ap (λ b. range_with_len b m) same
-range-from a (suc n) m =
-    let whole : suc n + m ≡ suc (n + m) = omega arith in
-    let same : a + 1 + n ≡ a + suc n = omega arith in
-    ap (range_with_len a) whole ∙ ap (λ rest. a ∷ rest) (range-from (a + 1) n m ∙ ap (λ b. range_with_len (a + 1) n ++ range_with_len b m) same)
-
-pub range-split : (n m : ℕ) → range_with_len 0 (n + m) ≡ range_with_len 0 n ++ range_with_len n m
-range-split n m = let same : 0 + n ≡ n = omega arith in range-from 0 n m ∙ ap (λ b. range_with_len 0 n ++ range_with_len b m) same
-
 pub unless-none : (fault : Option Fault) → unless_refused fault (Ok (tt {0})) ≡ Ok tt → fault ≡ None
 unless-none None is = refl
 unless-none (Some fault) is = absurd (grind (arith, is))
@@ -123,43 +107,6 @@ first-refused refusal n end found fault below none is (inr (inr refused)) =
 pub none-refused-all : (refusal : ℕ → Option Fault) (n end : ℕ) → n ≡ end → first_fault refusal (range_with_len 0 n) ≡ None
     → unless_refused (first_fault refusal (range_with_len 0 end)) (Ok (tt {0})) ≡ Ok tt
 none-refused-all refusal n end all none = rw (← all, none) refl
-
--- an edit without clusters of a table is none of it
-pub no-edits-by : (cb index : ℕ) (edit : GuestEdit) → has_clusters_in cb index edit ≡ false → edits_by cb index edit ≡ []
-no-edits-by cb index edit none =
-    let zero : table_end cb index edit - table_start cb index edit ≡ 0 = grind (arith, nat_tests, none) in
-    rw zero refl
-
--- and edits of which no one has any are none of it
-pub no-edits-in : (cb index : ℕ) (edits : List GuestEdit) → list_any (has_clusters_in cb index) edits ≡ false → edits_in cb index edits ≡ []
-no-edits-in cb index [] none = refl
-no-edits-in cb index (edit ∷ edits) none = elim (cases_Bool (has_clusters_in cb index edit)) [
-  | inl has ↦ absurd (grind (arith, none, has))
-  | inr has ↦ rw (no-edits-by cb index edit has, no-edits-in cb index edits (grind (arith, none, has))) refl
-]
-
--- an edit with clusters of a table is some of it
-some-edits-by : (cb index : ℕ) (edit : GuestEdit) → has_clusters_in cb index edit ≡ true → 0 < length (edits_by cb index edit)
-some-edits-by cb index edit has =
-    let more : table_start cb index edit < table_end cb index edit = grind (arith, nat_tests, has) in
-    omega (
-      arith,
-      more,
-      length-map-range_with_len (λ guest_cluster. edit_at edit (guest_cluster % l2_entries cb)) (table_start cb index edit)
-          (table_end cb index edit - table_start cb index edit),
-    )
-
-edits-in-count : (cb index : ℕ) (edits : List GuestEdit) → list_any (has_clusters_in cb index) edits ≡ true → 0 < length (edits_in cb index edits)
-edits-in-count cb index [] has = absurd (grind (arith, has))
-edits-in-count cb index (edit ∷ edits) has =
-    let both = length-append (edits_by cb index edit) (edits_in cb index edits) in
-    elim (cases_Bool (has_clusters_in cb index edit)) [
-      | inl here ↦ omega (arith, both, some-edits-by cb index edit here)
-      | inr none ↦ omega (arith, both, edits-in-count cb index edits (grind (arith, has, none)))
-    ]
-
-pub some-edits-in : (cb index : ℕ) (edits : List GuestEdit) → list_any (has_clusters_in cb index) edits ≡ true → edits_in cb index edits ≢ []
-some-edits-in cb index edits has none = omega (arith, edits-in-count cb index edits has, ap length none)
 
 -- what edits leave of a table, by the cluster that the L1 entry names
 pub run-at : (tables : ImageTables) (edits : List GuestEdit) (image : Image) (index : ℕ) (found : Option HostCluster)
@@ -309,11 +256,6 @@ pub all-allowed : (refusal : ℕ → Option Fault) (end count : ℕ) (after foun
 all-allowed refusal end count after found none is after_is =
     ap (λ n. option_or (first_fault refusal (range_with_len 0 n)) after) is ∙ ap (λ first. option_or first after) none ∙ after_is
 
--- a fact of an Ok that follows from another
-pub on-ok : {T : Type 0} (answer : Result T Fault) (P Q : Type 0) → (P → Q) → OnOk answer P → OnOk answer Q
-on-ok (Ok value) P Q follows fact = follows fact
-on-ok (Err fault) P Q follows fact = tt
-
 -- an outcome is added by the counters of the sources, whichever block is kept
 pub adds-by-sources : (sources : Sources) (first next : StorageState) (a b d : CountersState) (outcome : Outcome) (old new : PlannedChanges)
     → AreSources sources a → IsSameButBlock first a b → IsSameButBlock next b d → AddsOutcome d.header d.reftable outcome old new
@@ -325,28 +267,14 @@ adds-by-sources sources first next a b d outcome old new of same more added =
     ∙ ap (λ (counters : CountersState). counters.reftable) same.same in
     subst (λ h. AddsOutcome h a.reftable outcome old new) header (subst (λ r. AddsOutcome d.header r outcome old new) reftable added)
 
--- what edits of a loaded table did is what those of the table do, also where it is said in fewer ranges
-pub run-of-edits : (header : HeaderRecord) (table : HostCluster) (list other : List Edit) (loaded bytes : Image) (left : TableState) (outcome joined : Outcome)
-    → list ≡ other → loaded ≡ bytes → MakesRun header list (numbers_at (l2_layout (geometry_of header)) table loaded) left outcome
+-- what edits of a loaded table do is what those of the table do, also where it is said in fewer ranges
+pub run-of-edits : (header : HeaderRecord) (table : HostCluster) (list : List Edit) (loaded bytes : Image) (outcome joined : Outcome) → loaded ≡ bytes
+    → ComesToOutcome header list (numbers_at (l2_layout (geometry_of header)) table loaded) outcome
     → joined.gained.items ≡ outcome.gained.items → ((c : ℕ) → handed_back joined.freed.items c ≡ handed_back outcome.freed.items c)
-    → ((c : ℕ) → handed_back joined.freed.items c ≡ handed_back (run_in header other (numbers_at (l2_layout (geometry_of header)) table bytes)).freed c)
-    × (cluster_numbers joined.gained.items ≡ (run_in header other (numbers_at (l2_layout (geometry_of header)) table bytes)).gained)
-run-of-edits header table list other loaded bytes left outcome joined same same_bytes made gained freed =
-    let run = ap (λ edits. run_in header edits (numbers_at (l2_layout (geometry_of header)) table loaded)) same
-    ∙ ap (λ there. run_in header other (numbers_at (l2_layout (geometry_of header)) table there)) same_bytes in (
-      λ c. freed c ∙ ap (λ ranges. handed_back ranges c) (made.freed ∙ ap (λ (end : RunEnd). end.freed) run),
-      ap cluster_numbers gained ∙ made.gained ∙ ap (λ (end : RunEnd). end.gained) run,
+    → ((c : ℕ) → handed_back joined.freed.items c ≡ handed_back (run_in header list (numbers_at (l2_layout (geometry_of header)) table bytes)).freed c)
+    × (cluster_numbers joined.gained.items ≡ (run_in header list (numbers_at (l2_layout (geometry_of header)) table bytes)).gained)
+run-of-edits header table list loaded bytes outcome joined same comes gained freed =
+    let run = ap (λ there. run_in header list (numbers_at (l2_layout (geometry_of header)) table there)) same in (
+      λ c. freed c ∙ ap (λ ranges. handed_back ranges c) (comes.freed ∙ ap (λ (end : RunEnd). end.freed) run),
+      ap cluster_numbers gained ∙ comes.gained ∙ ap (λ (end : RunEnd). end.gained) run,
     )
-
--- a read that fails after another
-pub reads-then : {T U V : Type 0} (x : T) (fault : Fault) (a b d : StorageState) → OnlyReads (Ok x) a b → OnlyReads {T = U} (Err fault) b d
-    → OnlyReads {T = V} (Err fault) a d
-reads-then x fault a b d one other = record {
-  told = grind (arith, one.told, other.told);
-  bytes = other.bytes ∙ one.bytes;
-  device = record {
-    tells = other.device.tells ∙ one.device.tells;
-    mem_align = other.device.mem_align ∙ one.device.mem_align;
-    req_align = other.device.req_align ∙ one.device.req_align;
-  };
-}

@@ -1,12 +1,4 @@
 pub mod Apply
 pub mod Blocks
-pub mod ChangedClusters
-pub mod Changes
-pub mod EditsByTable
-pub mod GuestEdits
-pub mod MappedClusters
-pub mod Passes
 pub mod Plan
-pub mod PlannedChanges
 pub mod PlannedTables
-pub mod Tables

@@ -1,38 +1,43 @@
 -- What will edits of a disk do to an image, and when can't they be made of it?
-use Rattle.qcow2_apply.specs.PlannedChanges.{SomeIsUncounted, AreSorted, CannotCount}
-use Rattle.qcow2_apply.specs.PlannedTables.{tables_refusal, lost_before, counter_tables, ComesTo}
-use Rattle.std.specs.Option.{option_or}
-use Rattle.std.specs.Prelude.{◌≡◌, ℕ, false, ◌==◌, ◌&&◌, ◌<◌, List, length, IsSome, if◌then◌else◌, Option, Some, None, option_map, Result, Ok, Err}
-use Rattle.std.specs.List.{list_any}
+use Rattle.qcow2_changes.specs.PlannedChanges.{SomeIsUncounted, AreSorted, CannotCount}
+use Rattle.qcow2_apply.specs.PlannedTables.{AreReadBy, tables_refusal, lost_before, counter_tables, ComesTo}
+use Rattle.std.specs.Prelude.{◌≡◌, ℕ, false, ◌<◌, List, length, IsSome, None, Result, Ok, Err}
 use Rattle.qcow2_base.specs.Storage.{Image}
 use Rattle.qcow2_base.specs.declared.fault.Fault.{Fault}
-use Rattle.qcow2_base.specs.declared.fault.Fault.TheVariants.{BadEdit, CounterRange, ExternalData, VersionNeeded}
+use Rattle.qcow2_base.specs.declared.fault.Fault.TheVariants.{CounterRange}
 use Rattle.qcow2_metadata.specs.Header.{HeaderRecord, geometry_of, uses_external_data}
 use Rattle.qcow2_metadata.specs.Results.{and_then, unless_refused}
-use Rattle.qcow2_check.specs.Counters.{block_of_cluster, blocks_fault, counters_each, placed_reftable}
+use Rattle.qcow2_metadata.specs.Table.{TableState}
+use Rattle.qcow2_check.specs.Counters.{CountersState, block_of_cluster, blocks_fault, counters_each, placed_reftable}
 use Rattle.qcow2_check.specs.NamedTables.{loaded_l1_table}
 use Rattle.qcow2_check.specs.Uses.{ImageTables, image_tables}
-use Rattle.qcow2_apply.specs.ChangedClusters.{ListsChanges}
-use Rattle.qcow2_apply.specs.Changes.{losses_of}
-use Rattle.qcow2_apply.specs.EditsByTable.{IsByTable}
-use Rattle.qcow2_apply.specs.GuestEdits.{first_unfit_of, is_zeros}
-use Rattle.qcow2_apply.specs.Tables.{AllFit}
-use Rattle.qcow2_apply.specs.declared.changes.Changes.{Changes}
+use Rattle.qcow2_changes.specs.ChangedClusters.{ListsChanges}
+use Rattle.qcow2_changes.specs.Changes.{losses_of}
+use Rattle.qcow2_guest_edits.specs.EditsByTable.{IsByTable}
+use Rattle.qcow2_guest_edits.specs.GuestEdits.{edits_refusal}
+use Rattle.qcow2_guest_edits.specs.Tables.{AllFit}
+use Rattle.qcow2_changes.specs.declared.changes.Changes.{Changes}
 use Rattle.qcow2_apply.specs.declared.plan.Plan.{Plan}
-use Rattle.qcow2_apply.specs.declared.guest_edits.GuestEdit.{GuestEdit}
-
--- why edits can't be made of any disk of this header
-abbrev pub edits_refusal : HeaderRecord → List GuestEdit → Option Fault
-edits_refusal header edits =
-    if uses_external_data header then Some ExternalData
-    else option_or (option_map BadEdit (first_unfit_of header edits))
-    (if header.v2.version == 2 && list_any is_zeros edits then Some VersionNeeded else None)
+use Rattle.qcow2_guest_edits.specs.declared.guest_edits.GuestEdit.{GuestEdit}
 
 -- the tables that edits are made by, or the first refusal but for counters that can't follow
 abbrev pub planned_tables : HeaderRecord → List GuestEdit → Image → Result ImageTables Fault
 planned_tables header edits image = unless_refused (edits_refusal header edits)
     (and_then (loaded_l1_table header image) (λ l1. and_then (placed_reftable header image) (λ reftable.
     let tables = image_tables header l1 reftable in unless_refused (tables_refusal tables edits image) (Ok tables))))
+
+-- edits can be made of some disk of this header, and these are the entries of the image's L1 table and of its refcount table
+pub record AreRead (header : HeaderRecord) (edits : List GuestEdit) (image : Image) (l1 reftable : List ℕ) : Type 0 where
+  pub edits_fit : unless_refused (edits_refusal header edits) (Ok (tt {0})) ≡ Ok tt
+  pub l1_is : loaded_l1_table header image ≡ Ok l1
+  pub reftable_is : placed_reftable header image ≡ Ok reftable
+
+-- edits can be planned by an L1 table and a reader of counters, which keeps no block yet
+pub record CanBePlannedBy (header : HeaderRecord) (edits : List GuestEdit) (l1_table : TableState) (counters : CountersState) : Type 0 where
+  pub no_data_file : uses_external_data header ≡ false
+  pub fit : AllFit header edits
+  pub tables : AreReadBy header l1_table counters
+  pub unkept : counters.block ≡ None
 
 -- counters can't count what edits do: one can't, or a cluster that loses a reference has none
 pub data SomeCannotCount (tables : ImageTables) (edits : List GuestEdit) (image : Image) : Type 0 where

@@ -1,7 +1,7 @@
 -- Which edits of L2 tables can't be made of an image, and what do they do to references?
-use Rattle.qcow2_apply.specs.PlannedChanges.{SomeIsUncounted}
+use Rattle.qcow2_changes.specs.PlannedChanges.{AreSorted, SomeIsUncounted}
 use Rattle.std.specs.Option.{option_or}
-use Rattle.std.specs.Prelude.{◌≡◌, ◌⊎◌, ℕ, Bool, true, false, not, ◌==◌, ◌&&◌, ◌<◌, ◌≤◌, List, length, slice_get, slice_index, IsSome, is_some, if◌then◌else◌, Option, Some, None, option_map, Ok, Err}
+use Rattle.std.specs.Prelude.{◌≡◌, ◌⊎◌, ℕ, Bool, true, false, not, ◌==◌, ◌&&◌, ◌<◌, List, length, slice_get, slice_index, IsSome, is_some, if◌then◌else◌, Option, Some, None, option_map, Ok, Err}
 use Rattle.std.specs.List.{list_any, position, range_with_len, sum_by}
 use Rattle.qcow2_base.specs.Storage.{Image}
 use Rattle.qcow2_base.specs.declared.fault.Fault.{Fault}
@@ -12,34 +12,22 @@ use Rattle.qcow2_metadata.specs.Header.{HeaderRecord, geometry_of, uses_external
 use Rattle.qcow2_metadata.specs.Placed.{numbers_at}
 use Rattle.qcow2_metadata.specs.Table.{TableState, first_fault, l2_layout, loaded_l2_table}
 use Rattle.qcow2_metadata.specs.Table.L2Guards.{RunEnd, handed_back, times_gained}
-use Rattle.qcow2_check.specs.Counters.{CountersState, block_of_cluster, counter_of}
+use Rattle.qcow2_check.specs.Counters.{CountersState, block_of_cluster, counter_of, counters_each}
 use Rattle.qcow2_check.specs.NamedTables.{named_cluster}
 use Rattle.qcow2_check.specs.Uses.{ImageTables, image_tables}
-use Rattle.qcow2_apply.specs.Blocks.{CounterTablesState}
-use Rattle.qcow2_apply.specs.Changes.{AddsChanges, gains_of, losses_of}
-use Rattle.qcow2_apply.specs.EditsByTable.{IsByTable}
-use Rattle.qcow2_apply.specs.GuestEdits.{edits_in, ends_after, has_clusters_in, is_discard}
-use Rattle.qcow2_apply.specs.MappedClusters.{HoldsMappings, times_mapped}
-use Rattle.qcow2_apply.specs.Tables.{AllFit, run_in}
-use Rattle.qcow2_apply.specs.declared.changes.Changes.{Changes}
-use Rattle.qcow2_apply.specs.declared.planned_changes.PlannedChanges.{PlannedChanges}
+use Rattle.qcow2_changes.specs.CounterTables.{CounterTablesState}
+use Rattle.qcow2_changes.specs.Changes.{AddsChanges, gains_of, losses_of}
+use Rattle.qcow2_guest_edits.specs.EditsByTable.{IsByTable}
+use Rattle.qcow2_guest_edits.specs.GuestEdits.{edits_in, has_clusters_in}
+use Rattle.qcow2_guest_edits.specs.NeededTables.{are_more_needed, is_table_needed}
+use Rattle.qcow2_guest_edits.specs.MappedClusters.{HoldsMappings, times_mapped}
+use Rattle.qcow2_guest_edits.specs.Tables.{AllFit, run_in}
+use Rattle.qcow2_changes.specs.declared.changes.Changes.{Changes}
+use Rattle.qcow2_guest_edits.specs.declared.edits_by_table.EditsByTable.{EditsByTable}
+use Rattle.qcow2_changes.specs.declared.planned_changes.PlannedChanges.{PlannedChanges}
 use Rattle.qcow2_apply.specs.declared.planned_tables.Sources.{Sources}
-use Rattle.qcow2_apply.specs.declared.guest_edits.GuestEdit.{GuestEdit}
-use Rattle.qcow2_apply.specs.declared.guest_edits.GuestEdit.TheVariants.{Discard, Map, Zero}
-
--- whether edits need the table of the L1 entry at an index
-abbrev pub is_table_needed : ℕ → List GuestEdit → ℕ → Bool
-is_table_needed cb edits index = list_any (λ edit. has_clusters_in cb index edit && not (is_discard edit)) edits
-
--- whether edits need more L1 entries than that many
-abbrev pub are_more_needed : ℕ → List GuestEdit → ℕ → Bool
-are_more_needed cb edits entries = list_any (λ edit. ends_after cb entries edit && not (is_discard edit)) edits
-
--- the first index before an end of an L1 entry that names no table which is needed; the end, where there is none
-pub record IsFirstMissing (header : HeaderRecord) (l1 : List ℕ) (is_needed : ℕ → Bool) (end first : ℕ) : Type 0 where
-  pub within : first ≤ end
-  pub earlier : (i : ℕ) → i < first → named_cluster header.v2.cluster_bits (slice_index l1 i) ≡ None → is_needed i ≡ false
-  pub here : first < end → (named_cluster header.v2.cluster_bits (slice_index l1 first) ≡ None) × (is_needed first ≡ true)
+use Rattle.qcow2_guest_edits.specs.declared.guest_edits.GuestEdit.{GuestEdit}
+use Rattle.qcow2_guest_edits.specs.declared.guest_edits.GuestEdit.TheVariants.{Discard, Map, Zero}
 
 -- whether an L2 table belongs to the image alone: its L1 entry says so, and its counter
 abbrev pub is_alone : ImageTables → Image → ℕ → HostCluster → Bool
@@ -154,6 +142,11 @@ pub record IsPlanned (tables : ImageTables) (edits : List GuestEdit) (image : Im
       IsSome (block_of_cluster tables.header tables.reftable c)
   pub uncounted : planned.are_counted ≡ false → SomeIsUncounted tables.header tables.reftable (lost_before tables edits image end)
 
+-- edits are known by the tables of an image, and what they do to counters by its blocks
+pub record AreKnown (header : HeaderRecord) (l1 : List ℕ) (edits : List GuestEdit) (kept : EditsByTable) (planned : PlannedChanges) : Type 0 where
+  pub by_table : IsByTable header l1 edits kept
+  pub sorted : AreSorted (counters_each header) planned.gains planned.losses
+
 -- the tables that edits are planned by
 abbrev pub planning_tables : Sources → CountersState → ImageTables
 planning_tables sources counters = image_tables sources.header.now sources.l1_table.now.numbers counters.reftable
@@ -169,5 +162,5 @@ pub record AreSources (sources : Sources) (counters : CountersState) : Type 0 wh
   pub tables : AreReadBy sources.header.now sources.l1_table.now counters
   pub no_data_file : uses_external_data sources.header.now ≡ false
   pub fit : AllFit sources.header.now sources.edits.now
-  pub by_table : IsByTable sources.header.now sources.l1_table.now.numbers sources.edits.now sources.by_table.now
+  pub by_table : IsByTable sources.header.now sources.l1_table.now.numbers sources.edits.now sources.by_table
   pub mapped : HoldsMappings sources.edits.now sources.mapped

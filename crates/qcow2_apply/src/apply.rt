@@ -4,15 +4,14 @@ ghost use Rattle.std.specs.Prelude.{◌≡◌, ◌≢◌, ℕ, IfErr, IfOk, IsOk
 ghost use Rattle.qcow2_base.specs.Storage.{Image, OnImage, OnImages, SameOutside};
 ghost use Rattle.qcow2_base.specs.declared.fault.Fault.TheVariants.{NoMemory, Storage};
 ghost use Rattle.qcow2_check.specs.Failures.{ReportsFailures};
-ghost use Rattle.qcow2_apply.specs.Apply.{Applies, AreAllApart, BreaksOffApplying, CanBeMade, EditsDisk, IsElsewhere, IsWorkspaceOf, LeavesHeader, tables_by};
-ghost use Rattle.qcow2_apply.specs.Plan.{IsPlanFor};
+ghost use Rattle.qcow2_apply.specs.Apply.{Applies, AreAllApart, BreaksOffApplying, CanBeMade, EditsDisk, FollowsPlan, IsElsewhere, IsWorkspaceOf, LeavesHeader, tables_by};
+ghost use Rattle.qcow2_apply.specs.Plan.{IsPlanFor, IsPlanOf};
 
-use crate::blocks::{CounterTables, follow_changes};
-use crate::changed_clusters::ChangedClusters;
-use crate::guest_edits::GuestEdit;
+use crate::blocks::follow_changes;
 use crate::plan::Plan;
-use crate::tables::edit_tables;
 use qcow2_base::{Fault, Storage};
+use qcow2_changes::{ChangedClusters, CounterTables};
+use qcow2_guest_edits::{GuestEdit, edit_tables};
 use qcow2_metadata::{Header, L2Table, RefBlock};
 use std::alloc::Global;
 
@@ -80,6 +79,30 @@ impl Plan {
     }
 }
 
+impl Plan {
+    // Clears autoclear features, in the image and in its header, and makes the edits that are planned of it.
+    // That is on the device before these begin.
+    fn carry_out<S: Storage>(
+        &self,
+        image: &mut S,
+        header: &mut Header,
+        edits: &[GuestEdit],
+        workspace: &mut Workspace,
+    ) -> Result<(), Fault>
+        requires plan { IsPlanFor header.old edits.now self.now }
+        requires workspace { IsWorkspaceOf header.old workspace.old }
+        ensures header { LeavesHeader header.old result header.new }
+        ensures followed { OnImages (S.state image.old) (S.state image.new) (λ before after.
+            IsPlanOf header.old edits.now before self.now →
+            FollowsPlan header.old edits.now self.now result before after) }
+        ensures storage { ReportsFailures result (S.state image.old) (S.state image.new) }
+    {
+        header.clear_autoclear(image)?;
+        image.sync()?;
+        self.make(image, header, edits, workspace)
+    }
+}
+
 /// Makes edits of a disk in an image with this header, and lets the counters of the image's clusters follow.
 /// Returns what becomes of clusters by them.
 ///
@@ -111,8 +134,6 @@ pub fn apply_edits<S: Storage>(
 {
     let plan = Plan::new(alloc, image, header, edits)?;
     let mut workspace = Workspace::of(alloc, image, header)?;
-    header.clear_autoclear(image)?;
-    image.sync()?;
-    plan.make(image, header, edits, &mut workspace)?;
+    plan.carry_out(image, header, edits, &mut workspace)?;
     Ok(plan.clusters)
 }

@@ -3,89 +3,21 @@
 ghost use Rattle.std.specs.Prelude.{◌≡◌, ◌⊎◌, ◌+◌, ◌<◌, false, IfErr, IfOk, MatchResult, None, OnOk, Some, slice_index, true};
 ghost use Rattle.qcow2_base.specs.Storage.{OnImage, OnImages, OnlyReads, OnlyWrites};
 ghost use Rattle.qcow2_base.specs.declared.fault.Fault.TheVariants.{CounterRange, Storage};
-ghost use Rattle.qcow2_metadata.specs.Header.{geometry_of, uses_external_data};
+ghost use Rattle.qcow2_metadata.specs.Header.{uses_external_data};
 ghost use Rattle.qcow2_metadata.specs.Placed.{offset_of, place_fault};
 ghost use Rattle.qcow2_metadata.specs.Refblock.{block_geometry_of, block_layout};
-ghost use Rattle.qcow2_check.specs.Counters.{blocks_fault};
 ghost use Rattle.qcow2_check.specs.Failures.{ReportsFailures, TearsAtMost};
-ghost use Rattle.qcow2_apply.specs.Blocks.{BlockFollows, BlockIsStuck, FollowsChanges, IsBlockOf, IsByBlocks, IsStuckAt, SomeIsStuck, StopsFollowing, blocks, block_numbers};
-ghost use Rattle.qcow2_apply.specs.Changes.{IsOutcomeOf};
-ghost use Rattle.qcow2_apply.specs.Passes.{ArePlacesApart, KeepsOutside, StepsAt, TearsOne};
+ghost use Rattle.qcow2_changes.specs.Changes.{IsOutcomeOf};
+ghost use Rattle.qcow2_changes.specs.CounterTables.{BlockFollows, BlockIsStuck, IsByBlocks, block_numbers};
+ghost use Rattle.qcow2_guest_edits.specs.Passes.{ArePlacesApart, KeepsOutside, StepsAt, TearsOne};
+ghost use Rattle.qcow2_apply.specs.Blocks.{FollowsChanges, IsStuckAt, SomeIsStuck, StopsFollowing, blocks};
 
-use crate::changes::Changes;
 use qcow2_base::{Fault, HostCluster, Storage};
+use qcow2_changes::parts::follow;
+use qcow2_changes::{Changes, CounterTables};
 use qcow2_check::named_block;
-use qcow2_edits::{Outcome, settle};
+use qcow2_edits::Outcome;
 use qcow2_metadata::{Header, RefBlock, RefTable, Table};
-use std::marker::Model;
-
-/// The tables of an image that say where its counters are. Clauses see them as what they say.
-#[derive(Drop)]
-pub struct CounterTables<'a> {
-    pub header: &'a Header,
-    pub reftable: &'a RefTable,
-}
-
-impl<'a> Model for CounterTables<'a> {
-    ghost use Rattle.std.specs.Prelude.{◌≡◌, None};
-    ghost use Rattle.qcow2_metadata.specs.Header.{geometry_of};
-    ghost use Rattle.qcow2_check.specs.Counters.{blocks_fault};
-    ghost use Rattle.qcow2_apply.specs.Blocks.{CounterTablesState};
-
-    ghost Value = { CounterTablesState };
-
-    ghost view = { λ t. record { header = t.header.now; reftable = t.reftable.now.numbers } };
-
-    ghost invariant = { λ t. (t.reftable.now.geometry ≡ geometry_of t.header.now)
-        × (blocks_fault t.header.now t.reftable.now.numbers ≡ None) };
-}
-
-/// Lets the counters of a block follow what their clusters gained and lost. The index is the block's in the
-/// refcount table.
-pub(crate) fn follow(
-    block: &mut RefBlock,
-    tables: &CounterTables<'_>,
-    index: usize,
-    changes: &Changes,
-    outcome: &Outcome,
-) -> Result<(), Fault>
-    requires data { uses_external_data tables.now.header ≡ false }
-    requires block { IsBlockOf tables.now block.old }
-    requires bits { IsByBlocks tables.now changes.now }
-    requires outcome { IsOutcomeOf changes.now index (Some outcome.now) }
-    ensures followed { OnOk result
-        (BlockFollows tables.now changes.now index block.old.numbers block.new.numbers) }
-    ensures fault { IfErr result (λ fault. (fault ≡ CounterRange)
-        × BlockIsStuck tables.now changes.now index block.old.numbers) }
-    ensures same { block.new
-        ≡ record block.old { numbers = block.new.numbers; modified = block.new.modified } }
-    ensures modified { (block.new ≡ block.old) ⊎ (block.new.modified ≡ true) }
-{
-    settle(block, tables.header, index, outcome)
-}
-
-/// The same by what changes have for the block, if they have something.
-pub(crate) fn follow_if_changed(
-    block: &mut RefBlock,
-    tables: &CounterTables<'_>,
-    index: usize,
-    changes: &Changes,
-) -> Result<(), Fault>
-    requires data { uses_external_data tables.now.header ≡ false }
-    requires block { IsBlockOf tables.now block.old }
-    requires bits { IsByBlocks tables.now changes.now }
-    ensures followed { OnOk result
-        (BlockFollows tables.now changes.now index block.old.numbers block.new.numbers) }
-    ensures fault { IfErr result (λ fault. (fault ≡ CounterRange)
-        × BlockIsStuck tables.now changes.now index block.old.numbers) }
-    ensures same { block.new
-        ≡ record block.old { numbers = block.new.numbers; modified = block.new.modified } }
-{
-    match changes.outcome_of(index) {
-        Some(outcome) => follow(block, tables, index, changes, outcome),
-        None => Ok(()),
-    }
-}
 
 // Lets the counters of the block that begins with a cluster follow what their clusters gained and lost. It is
 // read over another block.

@@ -3,21 +3,11 @@
 
 mod apply;
 mod blocks;
-mod changed_clusters;
-mod changes;
-mod edits_by_table;
-mod guest_edits;
-mod mapped_clusters;
 mod plan;
-mod planned_changes;
 mod planned_tables;
-mod tables;
 
 pub use apply::apply_edits;
-pub use blocks::{CounterTables, follow_changes};
-pub use changed_clusters::{ChangedClusters, KeptCluster};
-pub use changes::Changes;
-pub use edits_by_table::EditsByTable;
-pub use guest_edits::{GuestEdit, edits_in, first_unfit};
+pub use blocks::follow_changes;
 pub use plan::Plan;
-pub use tables::edit_tables;
+pub use qcow2_changes::{ChangedClusters, Changes, CounterTables, KeptCluster};
+pub use qcow2_guest_edits::{EditsByTable, GuestEdit, edit_tables, edits_in, first_unfit};

@@ -1,48 +1,38 @@
 //! What edits of a disk will do to an image, looked at before anything is written.
 
-ghost use Rattle.std.specs.Prelude.{◌≡◌, ◌⊎◌, ◌<◌, ◌&&◌, Err, IfErr, IfOk, Ok, ◌/◌, Some};
-ghost use Rattle.std.specs.List.{list_any, position};
+ghost use Rattle.std.specs.Prelude.{◌≡◌, ◌⊎◌, ◌<◌, Err, IfErr, IfOk, Ok, ◌/◌, Some};
 ghost use Rattle.qcow2_base.specs.Storage.{OnImage, OnlyReads};
 ghost use Rattle.qcow2_metadata.specs.Results.{IsFromOutside, unless_refused};
-ghost use Rattle.qcow2_apply.specs.GuestEdits.{is_zeros};
-ghost use Rattle.qcow2_apply.specs.Plan.{edits_refusal, RefusesEdits, IsPlanOf, IsPlanFor};
+ghost use Rattle.qcow2_apply.specs.Plan.{AreRead, CanBePlannedBy, RefusesEdits, IsPlanOf, IsPlanFor};
 
-use crate::blocks::CounterTables;
-use crate::changed_clusters::ChangedClusters;
-use crate::changes::Changes;
-use crate::edits_by_table::EditsByTable;
-use crate::guest_edits::{GuestEdit, first_unfit};
 use crate::planned_tables::plan_by_tables;
 use qcow2_base::{Fault, Storage};
+use qcow2_changes::{ChangedClusters, Changes, CounterTables};
 use qcow2_check::{Counters, load_l1_table};
+use qcow2_guest_edits::parts::check_edits;
+use qcow2_guest_edits::{EditsByTable, GuestEdit};
 use qcow2_metadata::{Header, L1Table, RefTable};
 use std::alloc::Global;
 
-// Refuses edits that can't be made of any disk of this header.
-fn check_edits(header: &Header, edits: &[GuestEdit]) -> Result<(), Fault>
-    ensures { result ≡ unless_refused (edits_refusal header.now edits.now) (Ok tt) }
+// The tables that edits of a disk are planned by: the L1 table, and a reader of counters. Refuses edits that
+// can't be made of any disk of this header.
+fn read_tables<'a, S: Storage>(
+    alloc: Global,
+    image: &mut S,
+    header: &'a Header,
+    edits: &[GuestEdit],
+) -> Result<(L1Table, Counters<'a>), Fault>
+    ensures read { IfOk result (λ tables. OnImage (S.state image.old) (λ bytes.
+        AreRead header.now edits.now bytes tables.0.numbers tables.1.reftable)) }
+    ensures tables { IfOk result (λ tables. CanBePlannedBy header.now edits.now tables.0 tables.1) }
+    ensures refused { IfErr result (λ fault. OnImage (S.state image.old) (λ bytes.
+        IsFromOutside fault ⊎ RefusesEdits header.now edits.now bytes fault)) }
+    ensures storage { OnlyReads result (S.state image.old) (S.state image.new) }
 {
-    if header.external_data_file() {
-        return Err(Fault::ExternalData);
-    }
-    if let Some(position) = first_unfit(header, edits) {
-        return Err(Fault::BadEdit(position));
-    }
-    if header.version() == 2 && has_zeros(edits) {
-        return Err(Fault::VersionNeeded);
-    }
-    Ok(())
-}
-
-// Whether an edit makes zeros.
-fn has_zeros(edits: &[GuestEdit]) -> bool
-    ensures { result ≡ list_any is_zeros edits.now }
-{
-    edits.iter().any(
-        |edit: &GuestEdit| -> bool
-            ensures { result ≡ is_zeros edit.now }
-        { edit.is_zeros() },
-    )
+    check_edits(header, edits)?;
+    let l1_table = load_l1_table(alloc, image, header)?;
+    let counters = Counters::new(alloc, image, header)?;
+    Ok((l1_table, counters))
 }
 
 /// What edits of a disk will do to an image: the tables that they are made by, what clusters gain and lose,
@@ -73,11 +63,8 @@ impl Plan {
             IsFromOutside fault ⊎ RefusesEdits header.now edits.now bytes fault)) }
         ensures storage { OnlyReads result (S.state image.old) (S.state image.new) }
     {
-        check_edits(header, edits)?;
-        let l1_table = load_l1_table(alloc, image, header)?;
-        let mut counters = Counters::new(alloc, image, header)?;
-        let by_table = EditsByTable::of(alloc, header, &l1_table, edits)?;
-        let planned = plan_by_tables(image, header, &l1_table, &mut counters, edits, &by_table)?;
+        let (l1_table, mut counters) = read_tables(alloc, image, header, edits)?;
+        let (by_table, planned) = plan_by_tables(image, header, &l1_table, &mut counters, edits)?;
         let reftable = counters.into_reftable();
         let tables = CounterTables {
             header,

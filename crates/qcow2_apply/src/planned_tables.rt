@@ -10,83 +10,23 @@ ghost use Rattle.qcow2_metadata.specs.Table.L2Guards.{handed_back};
 ghost use Rattle.qcow2_check.specs.Counters.{counters_each, IsKeptBlockOf, IsSameButBlock};
 ghost use Rattle.qcow2_check.specs.NamedTables.{IsInImage, named_cluster};
 ghost use Rattle.qcow2_check.specs.Uses.{image_tables};
-ghost use Rattle.qcow2_apply.specs.Changes.{HasNone};
-ghost use Rattle.qcow2_apply.specs.EditsByTable.{IsByTable, positions_in};
-ghost use Rattle.qcow2_apply.specs.GuestEdits.{ends_after, guest_edit_fits, has_clusters_in, is_discard};
-ghost use Rattle.qcow2_apply.specs.PlannedChanges.{StaySorted, AreSorted};
-ghost use Rattle.qcow2_apply.specs.PlannedTables.{is_table_needed, are_more_needed, tables_refusal, AddsTable, IsPlanned, planning_tables, AreSources, IsFirstMissing, alone_fault, mapping_fault, mapping_fault_in, mappings_fault, named_table_refusal, table_refusal, AreReadBy};
-ghost use Rattle.qcow2_apply.specs.Tables.{AllFit};
+ghost use Rattle.qcow2_changes.specs.Changes.{HasNone};
+ghost use Rattle.qcow2_guest_edits.specs.EditsByTable.{IsByTable, positions_in};
+ghost use Rattle.qcow2_guest_edits.specs.GuestEdits.{has_clusters_in};
+ghost use Rattle.qcow2_guest_edits.specs.NeededTables.{are_more_needed, is_table_needed};
+ghost use Rattle.qcow2_changes.specs.PlannedChanges.{StaySorted, AreSorted};
+ghost use Rattle.qcow2_apply.specs.PlannedTables.{tables_refusal, AddsTable, AreKnown, IsPlanned, planning_tables, AreSources, alone_fault, mapping_fault, mapping_fault_in, mappings_fault, named_table_refusal, table_refusal, AreReadBy};
+ghost use Rattle.qcow2_guest_edits.specs.Tables.{AllFit};
 
-use crate::changes::push_clusters;
-use crate::edits_by_table::EditsByTable;
-use crate::guest_edits::{GuestEdit, edits_at};
-use crate::mapped_clusters::MappedClusters;
-use crate::planned_changes::PlannedChanges;
-use crate::tables::load_edited;
 use qcow2_base::{Fault, HostCluster, Storage};
+use qcow2_changes::parts::{PlannedChanges, joined};
 use qcow2_check::{Counters, named_cluster};
-use qcow2_edits::Outcome;
+use qcow2_guest_edits::parts::{
+    MappedClusters, are_more_needed, first_in, first_missing, load_outcome,
+};
+use qcow2_guest_edits::{EditsByTable, GuestEdit};
 use qcow2_metadata::{Header, L1Table, Table};
 use std::alloc::Global;
-
-// The index of the first L1 entry before an end that an edit has clusters of and that names no table; the
-// end, where there is none.
-fn first_missing_of(edit: &GuestEdit, header: &Header, l1_table: &L1Table, end: usize) -> usize
-    requires geometry { l1_table.now.geometry ≡ geometry_of header.now }
-    requires fits { guest_edit_fits header.now edit.now ≡ true }
-    ensures { IsFirstMissing header.now l1_table.now.numbers
-        (λ i. has_clusters_in header.now.v2.cluster_bits i edit.now) end result }
-{
-    let (start, after) = edit.tables(header);
-    for index in start..after.min(end) {
-        if named_cluster(l1_table, index).is_none() {
-            return index;
-        }
-    }
-    end
-}
-
-// The index of the first L1 entry that edits but for discards have clusters of and that names no table; the
-// number of entries, where there is none.
-fn first_missing(header: &Header, l1_table: &L1Table, edits: &[GuestEdit]) -> usize
-    requires geometry { l1_table.now.geometry ≡ geometry_of header.now }
-    requires fit { AllFit header.now edits.now }
-    ensures { IsFirstMissing header.now l1_table.now.numbers
-        (is_table_needed header.now.v2.cluster_bits edits.now) (length l1_table.now.numbers) result }
-{
-    let mut first = l1_table.entries();
-    for edit in edits {
-        if !edit.is_discard() {
-            first = first_missing_of(edit, header, l1_table, first);
-        }
-    }
-    first
-}
-
-// Whether an edit but for discards has clusters past those of the last L1 entry.
-fn are_more_needed(edits: &[GuestEdit], header: &Header) -> bool
-    ensures { let entries = header.now.v2.l1_size in
-        result ≡ are_more_needed header.now.v2.cluster_bits edits.now entries }
-{
-    edits.iter().any(
-        |edit: &GuestEdit| -> bool
-            ensures { let entries = header.entry.now.v2.l1_size in
-                result ≡ (ends_after header.entry.now.v2.cluster_bits entries edit.now
-                && not (is_discard edit.now)) }
-        { edit.ends_after(header) && !edit.is_discard() },
-    )
-}
-
-// The position of the first edit that has clusters of the table of an L1 entry.
-fn first_in(edits: &[GuestEdit], header: &Header, index: u32) -> Option<usize>
-    ensures { result ≡ position (has_clusters_in header.now.v2.cluster_bits index) edits.now }
-{
-    edits.iter().position(
-        |edit: &GuestEdit| -> bool
-            ensures { result ≡ has_clusters_in header.entry.now.v2.cluster_bits index edit.now }
-        { edit.has_clusters_in(header, index) },
-    )
-}
 
 // What edits of a disk are planned by.
 #[derive(Drop)]
@@ -94,7 +34,7 @@ struct Sources<'a> {
     header: &'a Header,
     l1_table: &'a L1Table,
     edits: &'a [GuestEdit],
-    by_table: &'a EditsByTable,
+    by_table: EditsByTable,
     mapped: MappedClusters,
 }
 
@@ -206,24 +146,6 @@ fn check_alone<S: Storage>(
     }
 }
 
-// The same outcome with the clusters that lost a reference in fewer ranges: what follows the range before is
-// one with it.
-fn joined(alloc: Global, outcome: Outcome) -> Result<Outcome, Fault>
-    ensures gained { IfOk result (λ joined. joined.gained.items ≡ outcome.gained.items) }
-    ensures freed { IfOk result (λ joined.
-        (c : ℕ) → handed_back joined.freed.items c ≡ handed_back outcome.freed.items c) }
-    ensures fault { IsOkUnless result NoMemory }
-{
-    let mut freed = Vec::new(alloc);
-    for clusters in outcome.freed.as_slice() {
-        push_clusters(&mut freed, *clusters)?;
-    }
-    Ok(Outcome {
-        gained: outcome.gained,
-        freed,
-    })
-}
-
 // Adds what edits of the table that begins with a cluster do, which the L1 entry at an index names. Refuses
 // them where something else refers to the table, where it can't be loaded, and where they map what they
 // can't.
@@ -255,17 +177,16 @@ fn plan_named_table<S: Storage>(
     ensures storage { OnlyReads result (S.state image.old) (S.state image.new) }
 {
     let alloc = sources.l1_table.allocator();
-    let header = sources.header;
     check_alone(image, sources, counters, index, table)?;
-    let cluster_bits = header.cluster_bits();
-    let edits = edits_at(
+    let outcome = load_outcome(
         alloc,
+        image,
+        sources.header,
+        table,
+        index as usize,
         sources.edits,
         positions,
-        cluster_bits,
-        index as usize,
     )?;
-    let (_, outcome) = load_edited(alloc, image, header, table, edits.as_slice())?;
     check_mappings(image, sources, counters, index, positions)?;
     let outcome = joined(alloc, outcome)?;
     planned.add(alloc, counters, &outcome)
@@ -349,12 +270,10 @@ pub(crate) fn plan_by_tables<S: Storage>(
     l1_table: &L1Table,
     counters: &mut Counters<'_>,
     edits: &[GuestEdit],
-    by_table: &EditsByTable,
-) -> Result<PlannedChanges, Fault>
+) -> Result<(EditsByTable, PlannedChanges), Fault>
     requires tables { AreReadBy header.now l1_table.now counters.old }
     requires data { uses_external_data header.now ≡ false }
     requires fit { AllFit header.now edits.now }
-    requires by_table { IsByTable header.now l1_table.now.numbers edits.now by_table.now }
     requires kept { OnImage (S.state image.old) (λ bytes.
         IsKeptBlockOf counters.old.header bytes counters.old.block) }
     ensures exact { OnImage (S.state image.old) (λ bytes. Answers (λ planned. tt {0}) result (unless_refused
@@ -362,9 +281,9 @@ pub(crate) fn plan_by_tables<S: Storage>(
         (Ok tt))) }
     ensures planned { IfOk result (λ planned. OnImage (S.state image.old) (λ bytes. IsPlanned
         (image_tables header.now l1_table.now.numbers counters.old.reftable) edits.now bytes
-        header.now.v2.l1_size planned)) }
-    ensures sorted { IfOk result (λ planned.
-        AreSorted (counters_each header.now) planned.gains planned.losses) }
+        header.now.v2.l1_size planned.1)) }
+    ensures known { IfOk result (λ planned.
+        AreKnown header.now l1_table.now.numbers edits.now planned.0 planned.1) }
     ensures reader { IsSameButBlock (S.state image.old) counters.old counters.new }
     ensures storage { OnlyReads result (S.state image.old) (S.state image.new) }
 {
@@ -373,10 +292,10 @@ pub(crate) fn plan_by_tables<S: Storage>(
         header,
         l1_table,
         edits,
-        by_table,
+        by_table: EditsByTable::of(alloc, header, l1_table, edits)?,
         mapped: MappedClusters::of(alloc, edits)?,
     };
     let mut planned = PlannedChanges::new(alloc, header);
     plan_tables(image, &sources, counters, &mut planned)?;
-    Ok(planned)
+    Ok((sources.by_table, planned))
 }

@@ -20,16 +20,16 @@ use Rattle.qcow2_check.specs.Tally.{ClusterUse, used_clusters}
 use Rattle.qcow2_check.specs.Uses.{ImageTables, block_uses, entry_uses, header_uses, image_uses, l1_entry_uses, table_uses, uses_of}
 use Rattle.qcow2_check.specs.declared.tally.UseKind.TheVariants.{Guest, L2Table}
 use Rattle.qcow2_apply.proofs.PlannedTablesLemmas.{none-there, run-at}
-use Rattle.qcow2_apply.proofs.TablesLemmas.{edits-made}
+use Rattle.qcow2_guest_edits.proofs.TablesLemmas.{edits-made}
 use Rattle.qcow2_apply.proofs.ApplyLemmas.{counter-left, table-left}
 use Rattle.qcow2_apply.specs.Apply.{AreAllApart, FollowsPlan, l2_tables_of, plan_tables}
-use Rattle.qcow2_apply.specs.Blocks.{HasCounter, counter_of_cluster}
-use Rattle.qcow2_apply.specs.GuestEdits.{edits_in}
+use Rattle.qcow2_changes.specs.CounterTables.{HasCounter, counter_of_cluster}
+use Rattle.qcow2_guest_edits.specs.GuestEdits.{edits_in}
 use Rattle.qcow2_apply.specs.Plan.{IsPlanFor, IsPlanOf}
 use Rattle.qcow2_apply.specs.declared.plan.Plan.{Plan}
 use Rattle.qcow2_apply.specs.PlannedTables.{counter_tables, gained_at, gained_before, lost_at, lost_before, run_gains, run_losses}
-use Rattle.qcow2_apply.specs.Tables.{AllFit, AreMade, IsEdited, run_in}
-use Rattle.qcow2_apply.specs.declared.guest_edits.GuestEdit.{GuestEdit}
+use Rattle.qcow2_guest_edits.specs.Tables.{AllFit, AreMade, IsEdited, run_in}
+use Rattle.qcow2_guest_edits.specs.declared.guest_edits.GuestEdit.{GuestEdit}
 
 -- the uses of a cluster by two lists
 uses-append : (a b : List ClusterUse) (c : ℕ) → uses_of (a ++ b) c ≡ uses_of a c + uses_of b c

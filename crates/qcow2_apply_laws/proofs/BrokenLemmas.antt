@@ -11,11 +11,11 @@ use Rattle.qcow2_apply.proofs.ApplyLemmas.{counters-cleared, counters-stay, tabl
 use Rattle.qcow2_apply_laws.proofs.BooksLemmas.{uses-at-most, uses-balance, uses-same}
 use Rattle.qcow2_apply.specs.Apply.{AreAllApart, BreaksOffApplying, FollowsPlan, InGains, InLosses, InTables, KeepDistance, TearsTableOrBlock, l2_tables_of, plan_tables, refblocks_of}
 use Rattle.qcow2_apply.specs.Blocks.{FollowsChanges, FollowsSome}
-use Rattle.qcow2_apply.specs.Passes.{IsOutside, Passes, TearsOne}
+use Rattle.qcow2_guest_edits.specs.Passes.{IsOutside, Passes, TearsOne}
 use Rattle.qcow2_apply.specs.Plan.{IsPlanFor, IsPlanOf}
 use Rattle.qcow2_apply.specs.PlannedTables.{counter_tables, gained_before}
-use Rattle.qcow2_apply.specs.Tables.{IsEdited}
-use Rattle.qcow2_apply.specs.declared.guest_edits.GuestEdit.{GuestEdit}
+use Rattle.qcow2_guest_edits.specs.Tables.{IsEdited}
+use Rattle.qcow2_guest_edits.specs.declared.guest_edits.GuestEdit.{GuestEdit}
 use Rattle.qcow2_apply.specs.declared.plan.Plan.{Plan}
 
 -- a write that was torn is one of a table or of a block

@@ -35,13 +35,13 @@ use Rattle.qcow2_apply_laws.proofs.ApartLemmas.{AreUnshared, apart-unshared, blo
 use Rattle.qcow2_apply.proofs.ApplyLemmas.{after-field, are-planned, table-left}
 use Rattle.qcow2_apply_laws.proofs.ErrorsLemmas.{AreDone, findings-all, no-error-at, no-leak-at, no-leaks}
 use Rattle.qcow2_apply_laws.proofs.FalseFlagsLemmas.{CanBe, can-be, no-errors}
-use Rattle.qcow2_apply.proofs.TablesLemmas.{edits-made}
+use Rattle.qcow2_guest_edits.proofs.TablesLemmas.{edits-made}
 use Rattle.qcow2_apply.specs.Apply.{FollowsPlan, IsElsewhere, l2_tables_of, plan_tables, tables_by}
 use Rattle.qcow2_apply_laws.specs.Errors.{HasNoErrors, HasNoLeaks, IsNoError, IsNoLeak}
-use Rattle.qcow2_apply.specs.GuestEdits.{edits_in}
-use Rattle.qcow2_apply.specs.Passes.{ArePlacesApart}
+use Rattle.qcow2_guest_edits.specs.GuestEdits.{edits_in}
+use Rattle.qcow2_guest_edits.specs.Passes.{ArePlacesApart}
 use Rattle.qcow2_apply.specs.Plan.{IsPlanFor, IsPlanOf, planned_tables}
-use Rattle.qcow2_apply.specs.declared.guest_edits.GuestEdit.{GuestEdit}
+use Rattle.qcow2_guest_edits.specs.declared.guest_edits.GuestEdit.{GuestEdit}
 use Rattle.qcow2_apply.specs.declared.plan.Plan.{Plan}
 
 -- no cluster of an image without errors has uses that exclude each other

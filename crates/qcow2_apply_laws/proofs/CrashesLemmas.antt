@@ -26,20 +26,21 @@ use Rattle.qcow2_check.specs.Counters.{counters_each}
 use Rattle.qcow2_check.specs.NamedTables.{named_cluster}
 use Rattle.qcow2_check.specs.Uses.{ImageTables, l1_entry_uses, uses_of}
 use Rattle.qcow2_apply.proofs.ApplyLemmas.{counters-cleared, table-cleared}
-use Rattle.qcow2_apply.proofs.BlocksLemmas.{block-of, counter-here}
+use Rattle.qcow2_changes.proofs.CounterTablesLemmas.{block-of, counter-here}
 use Rattle.qcow2_apply_laws.proofs.BooksLemmas.{fit-mapped, l1-entry-is, table-refers, uses-same, uses-within}
 use Rattle.qcow2_apply_laws.proofs.BrokenLemmas.{BeginsPlan, gains-keep, losses-keep, table-before, tables-keep}
 use Rattle.qcow2_apply.proofs.PlannedTablesLemmas.{run-at}
-use Rattle.qcow2_apply.proofs.TablesLemmas.{edits-made}
+use Rattle.qcow2_guest_edits.proofs.TablesLemmas.{edits-made}
 use Rattle.qcow2_apply.specs.Apply.{AreAllApart, KeepDistance, plan_tables}
-use Rattle.qcow2_apply.specs.Blocks.{CounterTablesState, Follows, FollowsSome, HasCounter, counter_of_cluster}
+use Rattle.qcow2_changes.specs.CounterTables.{CounterTablesState, Follows, HasCounter, counter_of_cluster}
+use Rattle.qcow2_apply.specs.Blocks.{FollowsSome}
 use Rattle.qcow2_apply_laws.specs.Crashes.{CrashesApplying, CrashesInPlan, IsSameSector, MixesSectors, WhileGainsAreCounted, WhileLossesAreCounted, WhileTablesAreEdited}
-use Rattle.qcow2_apply.specs.GuestEdits.{edits_in}
+use Rattle.qcow2_guest_edits.specs.GuestEdits.{edits_in}
 use Rattle.qcow2_apply.specs.Plan.{IsPlanFor, IsPlanOf}
 use Rattle.qcow2_apply.specs.PlannedTables.{counter_tables, gained_at, run_gains}
-use Rattle.qcow2_apply.specs.Tables.{AllFit, IsEdited, run_in}
-use Rattle.qcow2_apply.specs.declared.changes.Changes.{Changes}
-use Rattle.qcow2_apply.specs.declared.guest_edits.GuestEdit.{GuestEdit}
+use Rattle.qcow2_guest_edits.specs.Tables.{AllFit, IsEdited, run_in}
+use Rattle.qcow2_changes.specs.declared.changes.Changes.{Changes}
+use Rattle.qcow2_guest_edits.specs.declared.guest_edits.GuestEdit.{GuestEdit}
 use Rattle.qcow2_apply.specs.declared.plan.Plan.{Plan}
 
 -- the bytes of a unit, of which several fill a sector, lie in one sector

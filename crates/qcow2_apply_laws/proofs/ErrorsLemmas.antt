@@ -28,12 +28,12 @@ use Rattle.qcow2_apply.proofs.ApplyLemmas.{can-be-made, table-left}
 use Rattle.qcow2_apply_laws.proofs.BooksLemmas.{books, uses-balance}
 use Rattle.qcow2_apply_laws.proofs.GainsLemmas.{IsFree, gained-once, gains-free}
 use Rattle.qcow2_apply.specs.Apply.{AreAllApart, FollowsPlan, plan_tables}
-use Rattle.qcow2_apply.specs.Blocks.{HasCounter, counter_of_cluster}
+use Rattle.qcow2_changes.specs.CounterTables.{HasCounter, counter_of_cluster}
 use Rattle.qcow2_apply_laws.specs.Errors.{HasNoErrors, HasNoLeaks, IsNoError, IsNoLeak}
-use Rattle.qcow2_apply.specs.MappedClusters.{times_mapped}
+use Rattle.qcow2_guest_edits.specs.MappedClusters.{times_mapped}
 use Rattle.qcow2_apply.specs.Plan.{IsPlanFor, IsPlanOf}
 use Rattle.qcow2_apply.specs.PlannedTables.{counter_tables, gained_before}
-use Rattle.qcow2_apply.specs.declared.guest_edits.GuestEdit.{GuestEdit}
+use Rattle.qcow2_guest_edits.specs.declared.guest_edits.GuestEdit.{GuestEdit}
 use Rattle.qcow2_apply.specs.declared.plan.Plan.{Plan}
 
 -- edits of a disk were made by a plan, in an image whose tables and blocks are apart

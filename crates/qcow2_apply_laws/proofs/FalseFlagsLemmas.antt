@@ -34,13 +34,13 @@ use Rattle.qcow2_check.specs.declared.tally.UseKind.TheVariants.{L2Table}
 use Rattle.qcow2_apply.proofs.ApplyLemmas.{can-be-made, table-left}
 use Rattle.qcow2_apply_laws.proofs.ErrorsLemmas.{AreDone, FollowAt, findings-left, follow-at, follows-all, no-error-at}
 use Rattle.qcow2_apply_laws.proofs.GainsLemmas.{IsFree, entry_maps, maps-free, maps_in, run_maps}
-use Rattle.qcow2_apply.proofs.TablesLemmas.{edits-made}
+use Rattle.qcow2_guest_edits.proofs.TablesLemmas.{edits-made}
 use Rattle.qcow2_apply.specs.Apply.{plan_tables}
 use Rattle.qcow2_apply_laws.specs.Errors.{HasNoErrors, IsLate}
-use Rattle.qcow2_apply.specs.GuestEdits.{edits_in}
+use Rattle.qcow2_guest_edits.specs.GuestEdits.{edits_in}
 use Rattle.qcow2_apply.specs.PlannedTables.{gained_before}
-use Rattle.qcow2_apply.specs.Tables.{AreMade}
-use Rattle.qcow2_apply.specs.declared.guest_edits.GuestEdit.{GuestEdit}
+use Rattle.qcow2_guest_edits.specs.Tables.{AreMade}
+use Rattle.qcow2_guest_edits.specs.declared.guest_edits.GuestEdit.{GuestEdit}
 use Rattle.qcow2_apply.specs.declared.plan.Plan.{Plan}
 
 -- an L2 entry says that no other refers to its cluster

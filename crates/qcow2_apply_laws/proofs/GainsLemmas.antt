@@ -21,13 +21,13 @@ use Rattle.qcow2_check.specs.Counters.{block_of_cluster, counter_of}
 use Rattle.qcow2_check.specs.NamedTables.{named_cluster}
 use Rattle.qcow2_check.specs.Uses.{ImageTables}
 use Rattle.qcow2_apply.proofs.PlannedTablesLemmas.{none-refused-at, none-there, run-at}
-use Rattle.qcow2_apply.proofs.TablesLemmas.{named-below}
-use Rattle.qcow2_apply.specs.Blocks.{HasCounter, counter_of_cluster}
-use Rattle.qcow2_apply.specs.GuestEdits.{edit_at, edits_by, edits_in, has_clusters_in, table_end, table_start}
-use Rattle.qcow2_apply.specs.MappedClusters.{mappings_by, times_mapped}
+use Rattle.qcow2_guest_edits.proofs.TablesLemmas.{named-below}
+use Rattle.qcow2_changes.specs.CounterTables.{HasCounter, counter_of_cluster}
+use Rattle.qcow2_guest_edits.specs.GuestEdits.{edit_at, edits_by, edits_in, has_clusters_in, table_end, table_start}
+use Rattle.qcow2_guest_edits.specs.MappedClusters.{mappings_by, times_mapped}
 use Rattle.qcow2_apply.specs.PlannedTables.{alone_fault, counter_tables, gained_at, gained_before, load_fault, mapping_fault, mapping_fault_in, mappings_fault, run_gains, table_refusal, tables_refusal}
-use Rattle.qcow2_apply.specs.declared.guest_edits.GuestEdit.{GuestEdit}
-use Rattle.qcow2_apply.specs.declared.guest_edits.GuestEdit.TheVariants.{Discard, Map, Zero}
+use Rattle.qcow2_guest_edits.specs.declared.guest_edits.GuestEdit.{GuestEdit}
+use Rattle.qcow2_guest_edits.specs.declared.guest_edits.GuestEdit.TheVariants.{Discard, Map, Zero}
 
 -- how often a change maps an entry to cluster c
 abbrev pub entry_maps : ℕ → EntryEdit → ℕ

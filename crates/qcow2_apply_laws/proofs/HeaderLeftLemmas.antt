@@ -15,9 +15,9 @@ use Rattle.qcow2_check.specs.Uses.{ImageTables}
 use Rattle.qcow2_apply_laws.proofs.CheckedLemmas.{checked-planned, done-apart, left-no-errors}
 use Rattle.qcow2_apply.specs.Apply.{AreAllApart, FollowsPlan, IsElsewhere, LosesNoName, l2_tables_of, plan_tables, tables_by}
 use Rattle.qcow2_apply_laws.specs.Errors.{HasNoErrors}
-use Rattle.qcow2_apply.specs.Passes.{ArePlacesApart}
+use Rattle.qcow2_guest_edits.specs.Passes.{ArePlacesApart}
 use Rattle.qcow2_apply.specs.Plan.{IsPlanFor, IsPlanOf}
-use Rattle.qcow2_apply.specs.declared.guest_edits.GuestEdit.{GuestEdit}
+use Rattle.qcow2_guest_edits.specs.declared.guest_edits.GuestEdit.{GuestEdit}
 use Rattle.qcow2_apply.specs.declared.plan.Plan.{Plan}
 
 -- no byte of the first cluster is in a table or a block

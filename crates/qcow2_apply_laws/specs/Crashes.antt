@@ -5,11 +5,11 @@ use Rattle.qcow2_check.specs.Uses.{ImageTables}
 use Rattle.qcow2_metadata.specs.Header.{HeaderRecord}
 use Rattle.qcow2_apply.specs.Apply.{l2_tables_of, plan_tables}
 use Rattle.qcow2_apply.specs.Blocks.{FollowsChanges, FollowsSome}
-use Rattle.qcow2_apply.specs.Passes.{Passes, PassesSome}
+use Rattle.qcow2_guest_edits.specs.Passes.{Passes, PassesSome}
 use Rattle.qcow2_apply.specs.PlannedTables.{counter_tables}
-use Rattle.qcow2_apply.specs.Tables.{IsEdited}
-use Rattle.qcow2_apply.specs.declared.changes.Changes.{Changes}
-use Rattle.qcow2_apply.specs.declared.guest_edits.GuestEdit.{GuestEdit}
+use Rattle.qcow2_guest_edits.specs.Tables.{IsEdited}
+use Rattle.qcow2_changes.specs.declared.changes.Changes.{Changes}
+use Rattle.qcow2_guest_edits.specs.declared.guest_edits.GuestEdit.{GuestEdit}
 use Rattle.qcow2_apply.specs.declared.plan.Plan.{Plan}
 
 -- the two images agree in a sector of 512 bytes

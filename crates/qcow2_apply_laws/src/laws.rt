@@ -13,13 +13,13 @@ ghost use Rattle.qcow2_check.specs.Failures.{TearsAtMost};
 ghost use Rattle.qcow2_check.specs.Findings.{AreRight, checked_tables};
 ghost use Rattle.qcow2_check.specs.Uses.{ImageTables, image_uses, uses_of};
 ghost use Rattle.qcow2_apply.specs.Apply.{AreAllApart, FollowsPlan, KeepDistance, LosesNoName, TearsTableOrBlock, l2_tables_of, plan_tables};
-ghost use Rattle.qcow2_apply.specs.Blocks.{HasCounter, counter_of_cluster};
+ghost use Rattle.qcow2_changes.specs.CounterTables.{HasCounter, counter_of_cluster};
 ghost use Rattle.qcow2_apply_laws.specs.Crashes.{CrashesInPlan};
 ghost use Rattle.qcow2_apply_laws.specs.Errors.{HasNoErrors, HasNoLeaks};
-ghost use Rattle.qcow2_apply.specs.Passes.{ArePlacesApart};
+ghost use Rattle.qcow2_guest_edits.specs.Passes.{ArePlacesApart};
 ghost use Rattle.qcow2_apply.specs.Plan.{IsPlanFor, IsPlanOf};
 ghost use Rattle.qcow2_apply.specs.PlannedTables.{counter_tables};
-ghost use Rattle.qcow2_apply.specs.declared.guest_edits.GuestEdit.{GuestEdit};
+ghost use Rattle.qcow2_guest_edits.specs.declared.guest_edits.GuestEdit.{GuestEdit};
 ghost use Rattle.qcow2_apply.specs.declared.plan.Plan.{Plan};
 
 /// Where edits of a disk were made in an image whose tables and blocks are apart, at each cluster that has a

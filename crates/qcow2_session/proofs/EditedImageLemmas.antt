@@ -22,9 +22,9 @@ use Rattle.qcow2_apply_laws.proofs.ApartLemmas.{all-apart, block-apart}
 use Rattle.qcow2_apply.proofs.ApplyLemmas.{after-field, are-planned}
 use Rattle.qcow2_apply_laws.proofs.HeaderLeftLemmas.{header-left}
 use Rattle.qcow2_apply.specs.Apply.{FollowsPlan, IsElsewhere, LosesNoName, l2_tables_of, plan_tables, tables_by}
-use Rattle.qcow2_apply.specs.Passes.{ArePlacesApart}
+use Rattle.qcow2_guest_edits.specs.Passes.{ArePlacesApart}
 use Rattle.qcow2_apply.specs.Plan.{IsPlanFor, IsPlanOf}
-use Rattle.qcow2_apply.specs.declared.guest_edits.GuestEdit.{GuestEdit}
+use Rattle.qcow2_guest_edits.specs.declared.guest_edits.GuestEdit.{GuestEdit}
 use Rattle.qcow2_apply.specs.declared.plan.Plan.{Plan}
 use Rattle.qcow2_session.proofs.EditedReadsLemmas.{reads-as-left}
 use Rattle.qcow2_session.specs.EditedDisk.{mapping_left}

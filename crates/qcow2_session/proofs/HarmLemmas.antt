@@ -17,10 +17,10 @@ use Rattle.qcow2_apply_laws.proofs.CheckedLemmas.{finds-none}
 use Rattle.qcow2_apply_laws.proofs.HeaderLeftLemmas.{header-left-by-check}
 use Rattle.qcow2_apply.specs.Apply.{EditsDisk, FollowsPlan, LosesNoName, l2_tables_of}
 use Rattle.qcow2_apply_laws.specs.Errors.{HasNoErrors, IsLate}
-use Rattle.qcow2_apply.specs.Passes.{ArePlacesApart}
+use Rattle.qcow2_guest_edits.specs.Passes.{ArePlacesApart}
 use Rattle.qcow2_apply.specs.Plan.{IsPlanFor, IsPlanOf}
-use Rattle.qcow2_apply.specs.declared.changed_clusters.ChangedClusters.{ChangedClusters}
-use Rattle.qcow2_apply.specs.declared.guest_edits.GuestEdit.{GuestEdit}
+use Rattle.qcow2_changes.specs.declared.changed_clusters.ChangedClusters.{ChangedClusters}
+use Rattle.qcow2_guest_edits.specs.declared.guest_edits.GuestEdit.{GuestEdit}
 use Rattle.qcow2_apply.specs.declared.plan.Plan.{Plan}
 use Rattle.qcow2_session.proofs.AccountLemmas.{kind-joined}
 use Rattle.qcow2_session.proofs.RunsLemmas.{further}

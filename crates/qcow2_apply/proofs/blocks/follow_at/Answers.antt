@@ -1,7 +1,9 @@
 use Rattle.std.proofs.Common.{refl, rules, arith}
-use Rattle.qcow2_apply.proofs.BlocksLemmas.{are-of-clusters, idle-follows, place-at}
-use Rattle.qcow2_apply.proofs.PassesLemmas.{none-steps, one-keeps, step-answer}
-use Rattle.qcow2_apply.specs.Blocks.{BlockFollows, NamesBlock, blocks}
+use Rattle.qcow2_apply.proofs.BlocksLemmas.{are-of-clusters, idle-follows}
+use Rattle.qcow2_changes.proofs.CounterTablesLemmas.{place-at}
+use Rattle.qcow2_guest_edits.proofs.PassesLemmas.{none-steps, one-keeps, step-answer}
+use Rattle.qcow2_changes.specs.CounterTables.{BlockFollows, NamesBlock}
+use Rattle.qcow2_apply.specs.Blocks.{blocks}
 use Rattle.qcow2_apply.proofs.blocks.follow_at.Goals as goal
 
 pub returns-in_default-clause-followed : goal.returns-in_default-clause-followed

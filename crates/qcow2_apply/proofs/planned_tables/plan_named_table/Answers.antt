@@ -1,12 +1,11 @@
-use Rattle.std.proofs.Common.{◌≡◌, IsTrue, subst, rules}
+use Rattle.std.proofs.Common.{◌≡◌, IsTrue, rules}
 use Rattle.std.proofs.lemmas.Result.{err_from_is_err_and}
 use Rattle.std.specs.Option.{option_or}
-use Rattle.qcow2_apply.proofs.PlannedTablesLemmas.{adds-by-sources, adds-run, more-refused, on-ok, reads-then, run-of-edits}
-use Rattle.qcow2_apply.proofs.TablesLemmas.{edits-made}
+use Rattle.qcow2_apply.proofs.PlannedTablesLemmas.{adds-by-sources, adds-run, more-refused, run-of-edits}
+use Rattle.qcow2_changes.proofs.ChangedClustersLemmas.{on-ok, reads-then}
 use Rattle.qcow2_check.proofs.FindingsLemmas.{reads_twice}
-use Rattle.qcow2_apply.specs.GuestEdits.{edits_in}
+use Rattle.qcow2_guest_edits.specs.GuestEdits.{edits_in}
 use Rattle.qcow2_apply.specs.PlannedTables.{alone_fault, load_fault, mappings_fault, planning_tables}
-use Rattle.qcow2_apply.specs.Tables.{AreMade}
 use Rattle.qcow2_apply.proofs.planned_tables.plan_named_table.Goals as goal
 
 pub returns-in_err-check_alone-clause-exact : goal.returns-in_err-check_alone-clause-exact
@@ -19,15 +18,11 @@ returns-in_err-check_alone-clause-exact g c = λ told.
     (option_or (load_fault tables.header bytes c.args.table) (mappings_fault tables edits bytes c.args.index)) c.in_err-check_alone.field-0.0
     (c.in_err-check_alone.ensures.exact told))
 
-pub load_edited-requires-clause-fit : goal.load_edited-requires-clause-fit
-load_edited-requires-clause-fit g c = subst (λ list. AreMade c.args.sources.now.header.now list) (search rules)
-    (edits-made c.args.sources.now.header.now c.args.index c.args.sources.now.edits.now c.requires.sources.fit)
-
 pub returns-in_err-check_mappings-clause-storage : goal.returns-in_err-check_mappings-clause-storage
 returns-in_err-check_mappings-clause-storage g c =
     let exit = err_from_is_err_and c.from_residual-in_err-check_mappings.result c.from_residual-in_err-check_mappings.ensures.1 in
     let before = g.S.Storage.state c.args.image.now in
-    let loaded = g.S.Storage.state c.load_edited.new.image in
+    let loaded = g.S.Storage.state c.load_outcome.new.image in
     let read = reads_twice (tt {0}) c.in_ok-outcome.outcome (tt {0}) before (g.S.Storage.state c.check_alone.new.image) loaded (search rules) (search rules) in
     rw (exit.1, exit.2) (reads-then {U = Unit {0}} (tt {0}) c.in_err-check_mappings.field-0.0 before loaded (g.S.Storage.state c.check_mappings.new.image) read (search rules))
 
@@ -40,11 +35,10 @@ returns-clause-planned g c =
     on-ok c.add.result _ _ (λ added told.
     let known : IsTrue loaded.tells = search rules in
     let bytes : loaded.byte_at ≡ before.byte_at = search rules in
-    let made = (c.in_ok-outcome.ensures.edited known).1 in
+    let made = (c.in_ok-outcome.ensures.made known).1 in
     adds-run tables sources.edits.now before.byte_at c.args.index c.args.table c.in_ok-outcome-2.outcome c.args.planned.now c.add.new.self c.requires.table
-    (run-of-edits sources.header.now c.args.table c.as_slice.result.now (edits_in sources.header.now.v2.cluster_bits c.args.index sources.edits.now)
-    loaded.byte_at before.byte_at c.in_ok-outcome.field-0-0 c.in_ok-outcome.outcome c.in_ok-outcome-2.outcome (search rules) bytes made
-    c.in_ok-outcome-2.ensures.gained c.in_ok-outcome-2.ensures.freed)
-    (adds-by-sources sources before (g.S.Storage.state c.load_edited.new.image) c.args.counters.now c.check_alone.new.counters c.check_mappings.new.counters
+    (run-of-edits sources.header.now c.args.table (edits_in sources.header.now.v2.cluster_bits c.args.index sources.edits.now)
+    loaded.byte_at before.byte_at c.in_ok-outcome.outcome c.in_ok-outcome-2.outcome bytes made c.in_ok-outcome-2.ensures.gained c.in_ok-outcome-2.ensures.freed)
+    (adds-by-sources sources before (g.S.Storage.state c.load_outcome.new.image) c.args.counters.now c.check_alone.new.counters c.check_mappings.new.counters
     c.in_ok-outcome-2.outcome c.args.planned.now c.add.new.self c.requires.sources c.in_ok-check_alone.ensures.reader c.in_ok-check_mappings.ensures.reader added))
     c.add.ensures.added

@@ -1,0 +1,4 @@
+pub mod ChangedClusters
+pub mod Changes
+pub mod CounterTables
+pub mod PlannedChanges
