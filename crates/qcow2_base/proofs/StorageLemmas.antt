@@ -1,12 +1,12 @@
-use Rattle.std.proofs.Common.{◌≡◌, ℕ, zero, suc, ◌+◌, ◌^◌, ◌<◌, ◌≤◌, List, [], ◌∷◌, ◌++◌, drop, length, replicate, slice_index, refl, sym, ap, ◌∙◌, add-zero, add_assoc, arith, inl, inr, lit<, Option, Some, None, IfSome, length-append}
-use Rattle.std.specs.Io.KnownBytes.{Consumes, IsAtEnd}
-use Rattle.std.specs.Prelude.{unwrap_or}
+use Rattle.std.proofs.Common.{◌≡◌, ℕ, zero, suc, ◌+◌, ◌-◌, ◌^◌, ◌<◌, ◌≤◌, List, [], ◌∷◌, ◌++◌, drop, take, length, replicate, slice_index, refl, sym, ap, ◌∙◌, add-zero, add_assoc, arith, inl, inr, lit<, length-append, length-drop, length-take-le}
 use Rattle.std.proofs.lemmas.Bool.{cases_lt}
-use Rattle.std.proofs.lemmas.List.{append-nil, get_or-drop, get_or_append_left, get_or_past, length-replicate}
+use Rattle.std.proofs.lemmas.List.{get_or_append_left, get_or-append_right}
 use Rattle.std.proofs.lemmas.Nat.{mul-add-lt, same_from_place}
 use Rattle.std.proofs.Math.Nat.{pow-suc}
 use mathlib.Core.Path.{fun_ext}
-use Rattle.qcow2_base.specs.Storage.{Holds, Image, IsBytes, TellsReads, be, image_of}
+use lib.Seq.{take-add}
+use Rattle.qcow2_base.specs.Storage.{Holds, Image, IsBytes, SameOutside, be, image_of}
+use Rattle.qcow2_base.specs.Storage.ImageFile.{FileContent, OnFile}
 
 -- two images that agree over n bytes have the same number there
 pub be_of_same : (f g : Image) (n o p : ℕ) → ((k : ℕ) → k < n → f (o + k) ≡ g (p + k)) → be f o n ≡ be g p n
@@ -52,57 +52,56 @@ padded_read (b ∷ bytes) n (suc o) = padded_read bytes n o
 pub image_of-padded : (bytes : List ℕ) (n : ℕ) → image_of (bytes ++ replicate n 0) ≡ image_of bytes
 image_of-padded bytes n = fun_ext (padded_read bytes n)
 
--- what a file gives from the offset on, up to its end, and then zeros
-given_then_zeros : (bytes front rest : List ℕ) (offset n : ℕ) →
-    drop offset bytes ≡ front ++ rest →
-    (0 < n → rest ≡ []) →
-    Holds (image_of bytes) offset (front ++ replicate n 0)
-given_then_zeros bytes front rest offset n given end = record {
-  each = λ i below. rw (padded_read front n i, ← get_or-drop offset bytes i 0, given) (elim (cases_lt i (length front)) [
-    | inl stored ↦ sym (get_or_append_left front rest 0 i stored)
-    | inr past ↦ rw (end (omega (arith, below, past, length-append front (replicate n 0), length-replicate {A = ℕ} n 0)), append-nil front) refl
-  ]);
+-- an image that has some bytes, and then others, has both one after the other
+pub held_together : (image : Image) (offset : ℕ) (front rest : List ℕ) →
+    Holds image offset front → Holds image (offset + length front) rest → Holds image offset (front ++ rest)
+held_together image offset front rest has also = record {
+  each = λ i below. elim (cases_lt i (length front)) [
+    | inl first ↦ get_or_append_left front rest 0 i first ∙ has.each i first
+    | inr past ↦
+        let inside : i - length front < length rest = omega (arith, below, past, length-append front rest) in
+        let place : offset + length front + (i - length front) ≡ offset + i = omega (arith, past) in
+        get_or-append_right front rest (length front) i 0 refl past ∙ also.each (i - length front) inside ∙ ap image place
+  ];
 }
 
--- the same where more may be known to be left
-left_then_zeros : (bytes front : List ℕ) (left : Option (List ℕ)) (offset n : ℕ) →
-    Consumes (Some (drop offset bytes)) left front →
-    (0 < n → IsAtEnd left) →
-    Holds (image_of bytes) offset (front ++ replicate n 0)
-left_then_zeros bytes front None offset n given end = absurd given
-left_then_zeros bytes front (Some rest) offset n given end = given_then_zeros bytes front rest offset n given end
-
--- the same where the bytes may be known
-pub known_then_zeros : (known old left : Option (List ℕ)) (front : List ℕ) (offset n : ℕ) →
-    IfSome known (λ bytes. old ≡ Some (drop offset bytes)) →
-    Consumes old left front →
-    (0 < n → IsAtEnd left) →
-    IfSome known (λ bytes. Holds (image_of bytes) offset (front ++ replicate n 0))
-known_then_zeros None old left front offset n same given end = tt
-known_then_zeros (Some bytes) old left front offset n same given end =
-    left_then_zeros bytes front left offset n (rw (← same) given) end
-
-rest_of_known : {F : Type 0} (bytes : F → Option (List ℕ)) (position : F → Option ℕ) (remaining : F → Option (List ℕ)) →
-    TellsReads bytes position remaining → (file : F) (offset : ℕ) → position file ≡ Some offset →
-    (known : Option (List ℕ)) → bytes file ≡ known → IfSome known (λ xs. remaining file ≡ Some (drop offset xs))
-rest_of_known bytes position remaining tells file offset at None same = tt
-rest_of_known bytes position remaining tells file offset at (Some xs) same =
-    let told = tells file xs same in
-    let place : Some told.0 ≡ Some offset = sym told.1 ∙ at in
-    told.2 ∙ ap (λ n. Some (drop n xs)) (ap (λ o. unwrap_or o 0) place)
-
--- a file whose bytes may be known gives those from its position on
-pub gives_rest : {F : Type 0} (bytes : F → Option (List ℕ)) (position : F → Option ℕ) (remaining : F → Option (List ℕ)) →
-    TellsReads bytes position remaining → (file : F) (offset : ℕ) → position file ≡ Some offset →
-    IfSome (bytes file) (λ xs. remaining file ≡ Some (drop offset xs))
-gives_rest bytes position remaining tells file offset at =
-    rest_of_known bytes position remaining tells file offset at (bytes file) refl
-
--- past the end there are zeros, where the bytes may be known
-pub known_past_end : (known : Option (List ℕ)) (offset n : ℕ) →
-    IfSome known (λ bytes. length bytes ≤ offset) →
-    IfSome known (λ bytes. Holds (image_of bytes) offset (replicate n 0))
-known_past_end None offset n past = tt
-known_past_end (Some bytes) offset n past = record {
-  each = λ i below. zeros_read n i ∙ sym (get_or_past bytes (offset + i) 0 (omega (arith, past)));
+-- past its end an image has zeros
+pub zeros_past_end : (image : Image) (end offset n : ℕ) → ((o : ℕ) → end ≤ o → image o ≡ 0) → end ≤ offset →
+    Holds image offset (replicate n 0)
+zeros_past_end image end offset n zeros past = record {
+  each = λ i below. zeros_read n i ∙ sym (zeros (offset + i) (omega (arith, past)));
 }
+
+-- bytes before a range in which an image changes stay
+kept_before : (old new : Image) (offset len : ℕ) (front : List ℕ) → SameOutside (offset + length front) len old new →
+    Holds old offset front → Holds new offset front
+kept_before old new offset len front same has = record {
+  each = λ i below. has.each i below ∙ sym (same.before (offset + i) (omega (arith, below)));
+}
+
+-- a write of the rest of some bytes to a file that may be known leaves what was written before, and changes no byte
+-- outside the range of all
+pub written_so_far : (old now new : FileContent) (offset count : ℕ) (bytes : List ℕ) → count ≤ length bytes →
+    now.tells ≡ old.tells →
+    OnFile old (Holds now.byte_at offset (take count bytes)) →
+    OnFile old (SameOutside offset (length bytes) old.byte_at now.byte_at) →
+    OnFile now (SameOutside (offset + count) (length (drop count bytes)) now.byte_at new.byte_at) →
+    OnFile old (Holds new.byte_at offset (take count bytes) × SameOutside offset (length bytes) old.byte_at new.byte_at)
+written_so_far old now new offset count bytes within known has same changes = λ tells.
+    let front = length-take-le count bytes within in
+    let left : count + length (drop count bytes) ≡ length bytes = omega (arith, within, length-drop count bytes) in
+    let others = changes (rw known tells) in (
+      kept_before now.byte_at new.byte_at offset (length (drop count bytes)) (take count bytes) (rw front others) (has tells),
+      record {
+        before = λ o early. others.before o (omega (arith, early)) ∙ (same tells).before o early;
+        after = λ o late. others.after o (omega (arith, left, late)) ∙ (same tells).after o late;
+      },
+    )
+
+-- and one that took more of them leaves these too
+pub written_further : (new : Image) (offset count more : ℕ) (bytes : List ℕ) → count ≤ length bytes →
+    Holds new offset (take count bytes) → Holds new (offset + count) (take more (drop count bytes)) →
+    Holds new offset (take (count + more) bytes)
+written_further new offset count more bytes within has also =
+    let front = length-take-le count bytes within in
+    rw (take-add count more bytes) (held_together new offset (take count bytes) (take more (drop count bytes)) has (rw front also))

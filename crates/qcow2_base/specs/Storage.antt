@@ -2,9 +2,10 @@
 pub mod Alignment
 pub mod File
 pub mod Growth
+pub mod ImageFile
 pub mod Memory
 pub mod Slice
-use Rattle.std.specs.Prelude.{◌≡◌, ◌≢◌, ℕ, zero, suc, ◌+◌, ◌-◌, ◌*◌, ◌^◌, ◌%◌, ◌<◌, ◌≤◌, ◌↔◌, Bool, IsTrue, List, Option, Some, IfSome, Result, MatchResult, OnOk, IfErr, IsErrOf, length, drop, nat_lt, if◌then◌else◌, slice_index, refl}
+use Rattle.std.specs.Prelude.{◌≡◌, ◌≢◌, ℕ, zero, suc, ◌+◌, ◌-◌, ◌*◌, ◌^◌, ◌%◌, ◌<◌, ◌≤◌, ◌↔◌, Bool, IsTrue, List, Option, Some, IfSome, Result, MatchResult, OnOk, IfErr, IsErrOf, length, nat_lt, if◌then◌else◌, slice_index, refl}
 use Rattle.qcow2_base.specs.declared.fault.Fault.{Fault}
 use Rattle.qcow2_base.specs.declared.fault.Fault.TheVariants.{Storage as StorageFailed}
 
@@ -101,12 +102,6 @@ pub record OnlyWrites {T : Type 0} (answer : Result T Fault) (place : Option ℕ
 -- from some end on the image is zero
 abbrev pub Ends : Image → Type 0
 Ends image = (end : ℕ) × ((o : ℕ) → end ≤ o → image o ≡ 0)
-
--- a file of a type whose bytes are known has a known position, and reads give the bytes from there on
-abbrev pub TellsReads : {F : Type 0} → (F → Option (List ℕ)) → (F → Option ℕ) → (F → Option (List ℕ)) → Type 0
-TellsReads {F} bytes position remaining =
-    (file : F) (xs : List ℕ) → bytes file ≡ Some xs →
-    (at : ℕ) × (position file ≡ Some at) × (remaining file ≡ Some (drop at xs))
 
 -- the big-endian number of n bytes: each byte times 256 to the power of how many follow it
 unfoldable pub be : Image → ℕ → ℕ → ℕ

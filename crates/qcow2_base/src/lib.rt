@@ -18,5 +18,8 @@ pub use on_disk_struct::{
     HeaderExtensionHeader, OnDiskSize, OnDiskStruct, V2Header, V3HeaderBase, read_be, read_le,
     write_be, write_le,
 };
-pub use storage::{FileStorage, MemStorage, SliceStorage, Storage, StorageFault};
+pub use storage::{
+    FileStorage, ImageFile, ImageFiles, MemStorage, SliceStorage, Storage, StorageFault,
+    regular_len,
+};
 pub use types::{ClusterCount, GuestCluster, GuestOffset, HostCluster, HostOffset};

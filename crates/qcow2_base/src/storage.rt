@@ -7,11 +7,15 @@ ghost use Rattle.qcow2_base.specs.Storage.{StorageState, ReadsBytes, Syncs, Writ
 ghost use Rattle.qcow2_base.specs.declared.fault.Fault.TheVariants.{Storage as storage_fault};
 
 mod file;
+mod image_file;
+mod image_files;
 mod memory;
 mod slice;
 
 use crate::Fault;
 pub use file::FileStorage;
+pub use image_file::ImageFile;
+pub use image_files::{ImageFiles, regular_len};
 pub use memory::MemStorage;
 pub use slice::SliceStorage;
 use thiserror::Error;
@@ -37,8 +41,8 @@ impl From<StorageFault> for Fault {
 /// fails counts one failure, modulo 2^64, and a call that succeeds counts none.
 ///
 /// An implementor keeps that count. If no proof shall know the bytes, its `state` has `tells = false` and
-/// `byte_at = λ _. 0`, as that of `FileStorage`, and the four laws are a line each. One that shall be known
-/// gives its bytes, as `MemStorage`. A storage over an aligned device copies through buffers of its own.
+/// `byte_at = λ _. 0`, and the four laws are a line each. One that shall be known gives its bytes, as
+/// `MemStorage`. A storage over an aligned device copies through buffers of its own.
 pub trait Storage {
     /// What the storage says.
     ghost state: { Self → StorageState };

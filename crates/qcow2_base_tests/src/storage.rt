@@ -2,7 +2,9 @@
 
 mod buffered;
 mod files;
+mod known_files;
 mod large_files;
+mod real_files;
 mod slices;
 
 use qcow2_base::{MemStorage, Storage, StorageFault};

@@ -21,8 +21,8 @@ use qcow2_base::Fault;
 use qcow2_metadata::{ClustersToFreeEntry, Refused};
 pub use sessions::{
     apply_edits, check_image, check_image_in_json, edit_image, edit_settled, edit_table, edits_fit,
-    list_l2_table, lookup, lookup_image, parse_command, plan_edits, run, settle, step_block,
-    step_image,
+    list_l2_table, lookup, lookup_image, parse_command, plan_edits, run, run_on_file, settle,
+    step_block, step_image,
 };
 pub use tables::{
     LoadedTable, copy_l2_table, discard_cluster, enter_l2_table, enter_refblock, grow_l1_table,

@@ -3,7 +3,7 @@
 ghost use Rattle.std.specs.Prelude.{◌≡◌, IsTrue};
 
 use crate::NOT_MADE;
-use qcow2_base::{Fault, GuestOffset, HostCluster, Storage};
+use qcow2_base::{Fault, GuestOffset, HostCluster, ImageFiles, Storage};
 use qcow2_metadata::{Header, L1Table, L2Mapping, L2Table, RefBlock, Table};
 use qcow2_session::{
     ChangedClusters, Command, Edit, GuestEdit, Outcome, Plan, Step, StepReply, Verdict,
@@ -156,6 +156,17 @@ pub fn run<S: Storage, O: Write>(
     out: &mut O,
 ) -> Result<Verdict, Fault> {
     qcow2_session::run(alloc, image, command, out)
+}
+
+/// `qcow2_session::run_on_file`.
+pub fn run_on_file<R: ImageFiles, O: Write>(
+    alloc: Global,
+    files: &R,
+    path: &str,
+    command: &Command,
+    out: &mut O,
+) -> Result<Verdict, Fault> {
+    qcow2_session::run_on_file(alloc, files, path, command, out)
 }
 
 /// `qcow2_session::commands::check_image`.

@@ -1,5 +1,5 @@
-//! What edits of tables do to an image's counters: what clusters gain and lose, whether counters can follow, and
-//! what becomes of the clusters.
+//! What edits of tables do to an image's counters: what clusters gain and lose, whether counters can follow,
+//! and what becomes of the clusters.
 #![tactic(auto)]
 
 mod changed_clusters;

@@ -1,7 +1,7 @@
 //! The commands, and the faults that each may give, as docs/PROGRAM.md has them.
 
 /// A command in one of its forms.
-#[derive(Clone, Copy, Debug, PartialEq, Eq)]
+#[derive(Clone, Copy, PartialEq, Eq)]
 pub(crate) enum Kind {
     Info,
     List,

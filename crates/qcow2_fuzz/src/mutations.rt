@@ -86,7 +86,7 @@ fn change_bytes(bytes: &mut [u8], fields: &Fields, random: &mut Random) {
     }
 }
 
-// A place in the header, near the begin of a cluster, or anywhere in one. Half of the time it is that of the
+// A place in the header, near the start of a cluster, or anywhere in one. Half of the time it is that of the
 // next number that isn't 0.
 fn drawn_place(bytes: &[u8], fields: &Fields, random: &mut Random) -> u64 {
     let place = any_place(fields, random);

@@ -4,7 +4,7 @@ use qcow2_base::Fault;
 use std::alloc::Global;
 
 /// What a guest cluster reads as.
-#[derive(Clone, Copy, Debug, PartialEq, Eq)]
+#[derive(Clone, Copy, PartialEq, Eq)]
 pub(crate) enum Mapping {
     Data { offset: u64, is_copied: bool },
     Zeros,
@@ -14,7 +14,7 @@ pub(crate) enum Mapping {
 }
 
 /// What an extent reads as.
-#[derive(Clone, Copy, Debug, PartialEq, Eq)]
+#[derive(Clone, Copy, PartialEq, Eq)]
 pub(crate) enum Content {
     Data(u64),
     Zeros,
@@ -24,14 +24,14 @@ pub(crate) enum Content {
 }
 
 /// A line of `list`, or of `l2`, whose label is an index.
-#[derive(Clone, Copy, Debug, PartialEq, Eq)]
+#[derive(Clone, Copy, PartialEq, Eq)]
 pub(crate) struct Listed {
     pub(crate) label: u64,
     pub(crate) mapping: Mapping,
 }
 
 /// A line of `map`.
-#[derive(Clone, Copy, Debug, PartialEq, Eq)]
+#[derive(Clone, Copy, PartialEq, Eq)]
 pub(crate) struct Extent {
     pub(crate) start: u64,
     pub(crate) length: u64,
@@ -39,7 +39,7 @@ pub(crate) struct Extent {
 }
 
 /// The last line of `check`.
-#[derive(Clone, Copy, Debug, PartialEq, Eq)]
+#[derive(Clone, Copy, PartialEq, Eq)]
 pub(crate) struct Totals {
     pub(crate) leaked: u64,
     pub(crate) missing: u64,
@@ -49,7 +49,7 @@ pub(crate) struct Totals {
 }
 
 impl Mapping {
-    /// What the byte at a distance from the cluster's begin reads as.
+    /// What the byte at a distance from the cluster's start reads as.
     pub(crate) fn content(self, distance: u64) -> Content {
         match self {
             Mapping::Data { offset, .. } => Content::Data(offset.wrapping_add(distance)),

@@ -1,4 +1,5 @@
-//! What a plan of edits is built from: which edits fit a disk, which tables they need, and what they do to one.
+//! What a plan of edits is built from: which edits fit a disk, which tables they need, and what they do to a
+//! table.
 
 pub use crate::guest_edits::{check_edits, first_in};
 pub use crate::mapped_clusters::MappedClusters;

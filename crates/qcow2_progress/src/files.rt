@@ -1,6 +1,9 @@
 //! Files whose reads are watched.
 
+ghost use Rattle.qcow2_base.specs.Storage.ImageFile.{unknown_content};
+
 use super::progress::Progress;
+use qcow2_base::{Fault, FileStorage, ImageFiles, regular_len};
 use std::alloc::{Alloc, Allocator};
 use std::fs::{Metadata, OpenFile, OpenOptions};
 use std::io;
@@ -133,5 +136,19 @@ impl<'a, R: Files, C: Clock, E: Write + Copy> Files for WatchedFiles<'a, R, C, E
 
     fn remove_dir_all<B: Allocator>(&self, alloc: B, path: &str) -> io::Result<()> {
         self.files.remove_dir_all(alloc, path)
+    }
+}
+
+impl<'a, R: Files, C: Clock, E: Write + Copy> ImageFiles for WatchedFiles<'a, R, C, E> {
+    type Image = WatchedFile<'a, R::File, C, E>;
+
+    ghost file_at = { λ _ _. unknown_content };
+
+    fn open_image(&self, path: &str, writable: bool) -> Result<FileStorage<Self::Image>, Fault> {
+        FileStorage::open(self, path, writable)
+    }
+
+    fn image_len(&self, path: &str) -> Result<Option<u64>, Fault> {
+        regular_len(self, path)
     }
 }

@@ -23,6 +23,7 @@ pub mod PrintingLemmas
 pub mod RefcountLemmas
 pub mod ReportLemmas
 pub mod RunningLemmas
+pub mod RunningOnFilesLemmas
 pub mod RunsLemmas
 pub mod TablesLemmas
 pub mod VerdictLemmas

@@ -1,15 +1,19 @@
 use Rattle.std.proofs.lemmas.Bool.Decides.{nat_tests}
-use Rattle.std.proofs.Common.{◌≡◌, ◌≢◌, ◌⊎◌, ℕ, ◌∙◌, Result, Ok, Err, inl, inr, refl, sym, arith}
+use Rattle.std.proofs.Common.{◌≡◌, ◌≢◌, ◌⊎◌, ℕ, ◌∙◌, false, Option, None, Some, Result, Ok, Err, inl, inr, refl, sym, arith}
+use Rattle.std.specs.Bool.{IsTrue}
 use Rattle.std.specs.Result.{IsOk, MatchResult, OnErr, OnOk}
 use Rattle.qcow2_base.specs.Storage.{StorageState}
 use Rattle.qcow2_base.specs.declared.fault.Fault.{Fault}
 use Rattle.qcow2_base.specs.declared.fault.Fault.TheVariants.{Storage}
 use Rattle.qcow2_metadata.specs.Header.{HeaderRecord}
+use Rattle.qcow2_metadata.specs.Header.Grammar.{header_of}
+use Rattle.qcow2_metadata.specs.Header.Open.{header_after_load}
+use Rattle.qcow2_metadata.specs.Results.{Answers}
 use Rattle.qcow2_session.proofs.PrintingLemmas.{run_between}
 use Rattle.qcow2_session.specs.Commands.Facts.{CommandFacts}
 use Rattle.qcow2_session.specs.Commands.Printing.{AppendsPart, OutputBytes, PrintsLast, Run}
 use Rattle.qcow2_session.specs.Commands.Report.{Reports, fault_line}
-use Rattle.qcow2_session.specs.Commands.Running.{FindsHeader, Runs}
+use Rattle.qcow2_session.specs.Commands.Running.{FindsHeader, IsHeaderFor, Runs}
 use Rattle.qcow2_session.specs.Commands.Verdict.{status_of_verdict}
 use Rattle.qcow2_session.specs.declared.commands.verdict.Verdict.{Verdict}
 use Rattle.qcow2_session.specs.declared.commands.verdict.Verdict.TheVariants.{Fine, Harmful, Harmless}
@@ -26,6 +30,24 @@ runs-without facts fault contents old new a found = (Err fault, new, found, (ref
 
 -- what a run with a header comes to, or one without
 pub ruleset runs = (runs-with, runs-without)
+
+-- a header that was found for a command is one that it can work with
+pub header-for : (facts : CommandFacts) (header : HeaderRecord) (old new : StorageState)
+    → FindsHeader facts (Ok header) old new → IsHeaderFor facts header
+header-for facts header old new found = by_words facts.cluster_bits refl
+  where
+    by_words : (words : Option ℕ) → facts.cluster_bits ≡ words → IsHeaderFor facts header
+    by_words None is = rw is tt
+    by_words (Some cb) is = rw is (rw is at found).0
+
+-- the header that is loaded for a command is the one of the image's bytes, where these are known
+pub header-by-bytes : (facts : CommandFacts) (found : Result HeaderRecord Fault) (old left : StorageState)
+    → FindsHeader facts found old left → facts.cluster_bits ≡ None → IsTrue old.tells
+    → Answers (λ header. header) found (header_after_load facts.loads_to_write (header_of old.byte_at))
+    × (facts.loads_to_write ≡ false → left.byte_at ≡ old.byte_at)
+header-by-bytes facts found old left finds none known =
+    let loads = rw none at finds in
+    (loads.exact known, λ reads. (loads.storage.reads reads).bytes)
 
 -- what a command prints last, after its header was found
 pub last-with : {A O : Type 0} (facts : CommandFacts) (header : HeaderRecord) (run : Run A O) (left : StorageState)

@@ -18,10 +18,11 @@ pub mod Printing
 pub mod Refcount
 pub mod Report
 pub mod Running
+pub mod RunningOnFiles
 pub mod Tables
 pub mod Verdict
 pub mod Words
-use Rattle.std.specs.Prelude.{◌≡◌, if◌then◌else◌, ◌∷◌, Option, None, bytes_eq, codes}
+use Rattle.std.specs.Prelude.{◌≡◌, if◌then◌else◌, [], ◌∷◌, Option, None, bytes_eq, codes}
 use Rattle.qcow2_session.specs.Commands.Apply.{apply_command, apply_facts}
 use Rattle.qcow2_session.specs.Commands.At.{at_command, at_facts}
 use Rattle.qcow2_session.specs.Commands.Check.{check_command, check_facts}
@@ -62,6 +63,11 @@ command_by_name name image arguments =
 abbrev pub command_of : WordList → Option Command
 command_of (name ∷ image ∷ arguments) = command_by_name name image arguments
 command_of _ = None
+
+-- the name of the image that a line of words says
+abbrev pub image_name : WordList → Word
+image_name (name ∷ image ∷ arguments) = image
+image_name _ = []
 
 -- words that ask for no command, for no text, and for no fault's place
 abbrev pub AskForNothing : WordList → Type 0

@@ -41,7 +41,7 @@ pub use map::{ExtentFormat, print_extents};
 pub use qcow2_explain::locate_fault;
 pub use refcount::print_counters;
 pub use report::report_fault;
-pub use running::{run, run_words};
+pub use running::{run, run_on_file, run_words};
 pub use tables::print_tables;
 pub use verdict::Verdict;
 use words::alone;

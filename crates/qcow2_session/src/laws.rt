@@ -1,14 +1,16 @@
 //! Laws: facts about the definitions that contracts name. Each is a function that does nothing. Its
 //! contract is the law, and its name says it.
 
-ghost use Rattle.std.specs.Prelude.{◌≡◌, ℕ, ◌/◌, ◌^◌, List, ◌∷◌, ◌++◌, true, false, Ok};
+ghost use Rattle.std.specs.Prelude.{◌≡◌, ℕ, ◌/◌, ◌^◌, List, ◌∷◌, ◌++◌, true, false, IsTrue, None, Ok, Result};
 ghost use Rattle.std.specs.List.{All, list_any};
 ghost use Rattle.qcow2_base.specs.Format.{max_file_length};
-ghost use Rattle.qcow2_base.specs.Storage.{Image};
+ghost use Rattle.qcow2_base.specs.Storage.{Image, StorageState};
+ghost use Rattle.qcow2_base.specs.declared.fault.Fault.{Fault};
 ghost use Rattle.qcow2_metadata.specs.Entries.L2Mapping.{Mapping};
 ghost use Rattle.qcow2_metadata.specs.Header.{HeaderRecord, IsValidHeader, geometry_of};
 ghost use Rattle.qcow2_metadata.specs.Header.Grammar.{header_of};
-ghost use Rattle.qcow2_metadata.specs.Results.{result_map};
+ghost use Rattle.qcow2_metadata.specs.Header.Open.{header_after_load};
+ghost use Rattle.qcow2_metadata.specs.Results.{Answers, result_map};
 ghost use Rattle.qcow2_check.specs.Findings.{AreRight, checked_tables};
 ghost use Rattle.qcow2_check.specs.Uses.{ImageTables};
 ghost use Rattle.qcow2_apply.specs.Apply.{AreAllApart, EditsDisk, FollowsPlan, LosesNoName, l2_tables_of, plan_tables, tables_by};
@@ -18,6 +20,9 @@ ghost use Rattle.qcow2_changes.specs.declared.changed_clusters.ChangedClusters.{
 ghost use Rattle.qcow2_guest_edits.specs.declared.guest_edits.GuestEdit.{GuestEdit};
 ghost use Rattle.qcow2_apply.specs.declared.plan.Plan.{Plan};
 ghost use Rattle.qcow2_image.specs.Lookups.{guest_mapping, image_mapping, mapping_in};
+ghost use Rattle.qcow2_session.specs.Commands.{facts_of};
+ghost use Rattle.qcow2_session.specs.Commands.Running.{FindsHeader};
+ghost use Rattle.qcow2_session.specs.declared.commands.Command.{Command};
 ghost use Rattle.qcow2_session.specs.Commands.Check.{FindsNoHarm, report_on};
 ghost use Rattle.qcow2_session.specs.EditedDisk.{covers, mapping_after, mapping_left};
 ghost use Rattle.qcow2_session.specs.declared.commands.verdict.Verdict.TheVariants.{Fine};
@@ -29,6 +34,18 @@ pub use qcow2_image::laws::{
     a_disk_has_one_map, an_image_is_sound_where_nothing_is_found,
     an_l2_table_lies_apart_where_nothing_is_found,
 };
+
+/// Where an image's bytes are known, a command that loads its header goes by the one that these have by the
+/// grammar, or by their fault, unless memory ran out or a call of the storage failed. One that doesn't load
+/// it to write leaves these bytes.
+pub fn a_command_goes_by_the_header_of_its_bytes()
+    ensures { (command : Command) (found : Result HeaderRecord Fault) (old left : StorageState) →
+        FindsHeader (facts_of command) found old left → (facts_of command).cluster_bits ≡ None →
+        IsTrue old.tells →
+        Answers (λ header. header) found
+        (header_after_load (facts_of command).loads_to_write (header_of old.byte_at))
+        × ((facts_of command).loads_to_write ≡ false → left.byte_at ≡ old.byte_at) }
+{}
 
 /// Where a check finds an image consistent, nothing is wrong with any of its clusters.
 pub fn all_is_right_where_the_verdict_is_fine()

@@ -8,7 +8,7 @@ mod lines;
 
 pub use commands::{
     ApplyForm, Arguments, CheckForm, ClusterBits, Command, DiskEdit, FileName, Verdict,
-    report_fault, run, run_words,
+    report_fault, run, run_on_file, run_words,
 };
 pub use qcow2_apply::{ChangedClusters, GuestEdit, KeptCluster, Plan, apply_edits};
 pub use qcow2_check::{Counters, Finding, Findings, FlagPlace, Flags, WrongFlag};

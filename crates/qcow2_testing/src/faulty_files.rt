@@ -1,7 +1,10 @@
 //! Files that pass their calls on to real ones, record how they are opened, go a few bytes at a
 //! time, and fail where a test plans it.
 
+ghost use Rattle.qcow2_base.specs.Storage.ImageFile.{unknown_content};
+
 use crate::failing::take_turn;
+use qcow2_base::{Fault, FileStorage, ImageFiles, regular_len};
 use std::alloc::{Alloc, Allocator};
 use std::cell::Cell;
 use std::fs::{Metadata, OpenFile, OpenOptions};
@@ -221,5 +224,19 @@ impl<R: Files> Files for FaultyFiles<'_, R> {
 
     fn remove_dir_all<B: Allocator>(&self, _alloc: B, _path: &str) -> io::Result<()> {
         Err(ErrorKind::Unsupported.into())
+    }
+}
+
+impl<R: Files> ImageFiles for FaultyFiles<'_, R> {
+    type Image = FaultyFile<R::File>;
+
+    ghost file_at = { λ _ _. unknown_content };
+
+    fn open_image(&self, path: &str, writable: bool) -> Result<FileStorage<Self::Image>, Fault> {
+        FileStorage::open(self, path, writable)
+    }
+
+    fn image_len(&self, path: &str) -> Result<Option<u64>, Fault> {
+        regular_len(self, path)
     }
 }

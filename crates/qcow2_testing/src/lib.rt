@@ -9,6 +9,7 @@ mod failing;
 mod faults;
 mod faulty_files;
 mod images;
+mod known_files;
 mod temporary_files;
 
 pub use comparisons::{each, holds, part_of, printed, row_error, same, same_bytes, same_text};
@@ -17,4 +18,5 @@ pub use failing::{FailingStorage, StorageCall, take_turn};
 pub use faults::{FAULTS, ReportedFault};
 pub use faulty_files::{FaultyFile, FaultyFiles, Opens};
 pub use images::{filled_image, image_with, put, put_all, put_bytes, recorded, same_image};
+pub use known_files::{KnownFile, KnownFiles};
 pub use temporary_files::{TemporaryFile, file_holds, temporary_file, temporary_path};

@@ -131,32 +131,28 @@ fn short_reads_and_writes_are_gone_on_with(rt: HostRuntime) -> Result<(), Fail> 
     Ok(())
 }
 
-// Where a read of four bytes begins, how often it asks a file that gives two at a time, and what it reads.
-// It asks for a place and twice for bytes, and for the length too where the second time gave none.
-const CALLS: &[(u64, u64, [u8; 4])] = rows! {
-    (1, 3, [2, 3, 4, 5]), (3, 4, [4, 5, 0, 0]),
-};
-
-fn check_failing_read(
-    rt: &HostRuntime,
-    path: &str,
-    row: (u64, u64, [u8; 4]),
-    passes: u64,
-) -> Result<(), Fail> {
-    let (offset, _, bytes) = row;
-    let mut storage = faulty(rt, path, (Some(passes), 2, u64::MAX))?;
-    same(
-        read(&mut storage, &mut [0; 4], offset),
-        Err(StorageFault),
-        row,
-    )?;
-    check_failures(rt.alloc(), &storage, 1)?;
-    check_bytes(rt.alloc(), &mut storage, offset, &bytes)
+// A read of four bytes of a file that gives two at a time.
+struct Asked {
+    // Where it begins, and what it reads.
+    offset: u64,
+    bytes: [u8; 4],
+    // Which calls of the file make it fail. It asks for a place and for bytes, twice, and for the length too
+    // where the second time gave none. The file need not be set to a place past its end.
+    needs: &'static [u64],
 }
 
-fn check_failing_reads(rt: &HostRuntime, path: &str, row: (u64, u64, [u8; 4])) -> Result<(), Fail> {
-    for passed in 0..row.1 {
-        check_failing_read(rt, path, row, passed + 1)?;
+const CALLS: &[Asked] = rows! { Asked:
+    { offset: 1, bytes: [2, 3, 4, 5], needs: &[0, 1, 2, 3] },
+    { offset: 3, bytes: [4, 5, 0, 0], needs: &[0, 1, 3, 4] },
+};
+
+fn check_failing_reads(rt: &HostRuntime, path: &str, row: &Asked) -> Result<(), Fail> {
+    for passes in row.needs {
+        let mut storage = faulty(rt, path, (Some(passes.saturating_add(1)), 2, u64::MAX))?;
+        let answer = read(&mut storage, &mut [0; 4], row.offset);
+        same(answer, Err(StorageFault), (row.offset, *passes))?;
+        check_failures(rt.alloc(), &storage, 1)?;
+        check_bytes(rt.alloc(), &mut storage, row.offset, &row.bytes)?;
     }
     Ok(())
 }
@@ -168,7 +164,7 @@ fn an_open_or_a_read_fails_where_one_call_of_the_file_does(rt: HostRuntime) -> R
     let answer = faulty(&rt, file.path.as_str(), (Some(0), 2, u64::MAX));
     same(answer.err(), Some(Fault::Storage), "at its metadata")?;
     for row in CALLS {
-        check_failing_reads(&rt, file.path.as_str(), *row)?;
+        check_failing_reads(&rt, file.path.as_str(), row)?;
     }
     Ok(())
 }
@@ -190,12 +186,12 @@ fn ends_of(rt: &HostRuntime, path: &str) -> Result<(usize, Option<u8>, Option<u8
     Ok((bytes.len(), bytes.first().copied(), bytes.last().copied()))
 }
 
-// A write of four bytes, two at a time, asks a file four times: for a place, twice to take bytes,
-// and to pass them on.
+// A write of four bytes, two at a time, asks a file six times: for a place, to take bytes and to pass them
+// on, twice.
 #[test]
 fn a_write_fails_where_one_call_of_the_file_does(rt: HostRuntime) -> Result<(), Fail> {
     let file = temporary_file(&rt, "failed-write", &[])?;
-    for passes in 1..5 {
+    for passes in 1..7 {
         check_failing_write(&rt, file.path.as_str(), passes)?;
     }
     Ok(())

@@ -26,6 +26,8 @@ pub(crate) fn check_edits<O: Write>(
         return check_torn(trial, readings, line.as_str());
     }
     let is_same = apply == plan && trial.printed().as_bytes() == planned.as_slice();
+    // edits of tables that lie in one another change what later ones meet
+    let is_same = is_same || !readings.lie_apart();
     trial.unless(is_same, line.as_str(), "what the plan says", "another end");
     match apply {
         Ok(_) => check_kept_books(trial, readings, line.as_str())?,

@@ -16,8 +16,9 @@ pub(crate) fn check_undone<O: Write>(
     let fields = trial.fields;
     let number = u64_at(trial.before, fields.reftable_offset);
     let block = fields.cluster_of(number);
-    // a block of a valid number, which isn't the header's cluster
-    if fields.within_cluster(number) != 0 || block == 0 {
+    // a block of a valid number, which isn't the header's cluster, of a refcount table that has clusters
+    let table_clusters = u64_at(trial.before, 56) >> 32;
+    if fields.within_cluster(number) != 0 || block == 0 || table_clusters == 0 {
         return Ok(());
     }
     let index = random.below(fields.block_entries());

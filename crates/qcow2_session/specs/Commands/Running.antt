@@ -1,5 +1,5 @@
 -- What does a run of a command come to, from the load of the header to the flush of the output?
-use Rattle.std.specs.Prelude.{◌≡◌, ◌⊎◌, false, ℕ, Option, Some, None, Result, Err, IsOk, MatchResult}
+use Rattle.std.specs.Prelude.{◌≡◌, ◌⊎◌, false, ℕ, Option, Some, None, IfSome, Result, Err, IsOk, MatchResult}
 use Rattle.std.specs.Io.KnownBytes.{Keeps}
 use Rattle.qcow2_base.specs.Storage.{StorageState}
 use Rattle.qcow2_base.specs.declared.fault.Fault.{Fault}
@@ -23,17 +23,26 @@ FindsHeader facts found old new = by_words facts.cluster_bits
     by_words None = Loads facts.loads_to_write found old new
     by_words (Some cb) = IsNewHeader cb found × (new ≡ old)
 
--- a run of a command: its header is found first, whose fault is the answer before anything is printed, and then the
--- command runs over the image that this left
-abbrev pub Runs : {O : Type 0} → CommandFacts → Run Verdict O → Type 0
-Runs facts run = (found : Result HeaderRecord Fault) × (left : StorageState)
+-- a header is one that a command can work with: where its words say cluster bits, a new one of these
+abbrev pub IsHeaderFor : CommandFacts → HeaderRecord → Type 0
+IsHeaderFor facts header = IfSome facts.cluster_bits (λ cb. geometry_of header ≡ geometry cb false)
+
+-- a run of a command finds its header first, whose fault is its answer before anything is printed. Then this follows, over the
+-- image that this left
+abbrev pub AfterHeader : {O : Type 0} → CommandFacts → (HeaderRecord → Run Verdict O → Type 0) → Run Verdict O → Type 0
+AfterHeader facts Follows run = (found : Result HeaderRecord Fault) × (left : StorageState)
     × FindsHeader facts found run.old left × MatchResult found
-    (λ header. facts.Ends header (record run { old = left }))
+    (λ header. Follows header (record run { old = left }))
     (λ fault. (run.answer ≡ Err fault) × (run.new ≡ left) × (run.after ≡ run.before))
 
--- a run of a command, and then the flush of its output: the answer is that of the run, its verdict or its fault. Only after
--- a run without a fault it may be the storage fault, of a failed flush. The flush changes nothing of what was printed
-abbrev pub RunsAndFlushes : {O : Type 0} → CommandFacts → Run Verdict O → Type 0
-RunsAndFlushes {O = O} facts run = (ran : Result Verdict Fault) × (printed : O)
-    × Runs facts (record run { answer = ran; after = printed }) × Keeps (run.contents printed) (run.contents run.after)
+-- a run of a command: its header is found, and then it ends as it should with that
+abbrev pub Runs : {O : Type 0} → CommandFacts → Run Verdict O → Type 0
+Runs facts run = AfterHeader facts facts.Ends run
+
+-- a run of a command with its header, and then the flush of its output: the answer is that of the run, its verdict or its
+-- fault. Only after a run without a fault it may be the storage fault, of a failed flush. The flush changes nothing of what was
+-- printed
+abbrev pub EndsAndFlushes : {O : Type 0} → CommandFacts → HeaderRecord → Run Verdict O → Type 0
+EndsAndFlushes {O = O} facts header run = (ran : Result Verdict Fault) × (printed : O)
+    × facts.Ends header (record run { answer = ran; after = printed }) × Keeps (run.contents printed) (run.contents run.after)
     × ((run.answer ≡ ran) ⊎ (IsOk ran × (run.answer ≡ Err Storage)))

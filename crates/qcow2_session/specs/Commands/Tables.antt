@@ -1,12 +1,11 @@
 -- What does the command `tables` print?
-use Rattle.std.specs.Prelude.{ℕ, false, ◌*◌, ◌^◌, List, [], ◌∷◌, ◌++◌, flat_map, slice_index, Option, Some, None, Result, codes}
+use Rattle.std.specs.Prelude.{ℕ, false, ◌*◌, ◌^◌, List, [], ◌∷◌, ◌++◌, flat_map, slice_index, Some, None, Result, codes}
 use Rattle.std.specs.Fmt.{decimal}
 use Rattle.std.specs.Int.{div_ceil}
 use Rattle.std.specs.List.{range_with_len}
 use Rattle.qcow2_base.specs.Storage.{Image}
 use Rattle.qcow2_base.specs.declared.fault.Fault.{Fault}
 use Rattle.qcow2_base.specs.declared.types.GuestOffset.{GuestOffset}
-use Rattle.qcow2_base.specs.declared.types.HostCluster.{HostCluster}
 use Rattle.qcow2_check.specs.Counters.{counter_of, counters_each, placed_reftable}
 use Rattle.qcow2_check.specs.NamedTables.{l1_cluster, loaded_l1_table, named_block, named_cluster, reftable_cluster}
 use Rattle.qcow2_check.specs.Uses.{ImageTables, image_tables}

@@ -3,12 +3,13 @@
 ghost use Rattle.std.specs.Prelude.{◌≡◌, ◌≢◌, ◌≤◌, ◌↔◌, None, Ok, Err, false, map, string_bytes, IsErr, IfErr, IfOk, IfSome, OnErr, OnOk, MatchResult};
 ghost use Rattle.std.specs.Io.KnownBytes.{Keeps};
 ghost use Rattle.qcow2_base.specs.declared.fault.Fault.TheVariants.{Storage as StorageFailed};
-ghost use Rattle.qcow2_session.specs.Commands.{AskForNothing, command_of, facts_of};
+ghost use Rattle.qcow2_session.specs.Commands.{AskForNothing, command_by_name, command_of, facts_of, image_name};
 ghost use Rattle.qcow2_session.specs.Commands.Explain.{PrintsExplained, explained_text};
 ghost use Rattle.qcow2_session.specs.Commands.Help.{PrintsAsked, asked_text, text_of};
 ghost use Rattle.qcow2_session.specs.Commands.Printing.{AppendsPart, PrintsLast, run_over};
 ghost use Rattle.qcow2_session.specs.Commands.Report.{Reports, fault_line};
-ghost use Rattle.qcow2_session.specs.Commands.Running.{FindsHeader, Runs, RunsAndFlushes};
+ghost use Rattle.qcow2_session.specs.Commands.RunningOnFiles.{ComparesWithFile, RunsLine, RunsOnFile};
+ghost use Rattle.qcow2_session.specs.Commands.Running.{EndsAndFlushes, FindsHeader, IsHeaderFor, Runs};
 ghost use Rattle.qcow2_session.specs.Commands.Verdict.{fine_unless_failed, status_of_verdict};
 ghost use Rattle.qcow2_session.specs.declared.commands.verdict.Verdict.TheVariants.{Fine};
 
@@ -30,13 +31,13 @@ use super::report::{refuse_words, report_fault};
 use super::tables::print_tables;
 use super::verdict::Verdict;
 use crate::lines::print;
-use qcow2_base::{Fault, FileStorage, Storage};
+use qcow2_base::{Fault, ImageFiles, Storage};
 use qcow2_buffered::BufferedStorage;
 use qcow2_metadata::Header;
 use std::alloc::Global;
+use std::io;
 use std::io::Write;
 use std::rt::Files;
-use std::{fs, io};
 
 /// Runs a command line, the words after the program's name, and returns the program's status: 0 for
 /// success, 1 for a fault and 2 for words that ask for nothing. 3 and 4 are those of `Verdict::status`, for
@@ -48,16 +49,13 @@ use std::{fs, io};
 /// after a command, `err` after a line on it. A failed write to `out` is the storage fault; one to `err`
 /// changes nothing.
 #[tactic(auto, using(crate::proofs::HelpLemmas::asked_is_no_command))]
-pub fn run_words<R: Files + AllocGlobal, O: Write, E: Write>(
+pub fn run_words<R: Files + ImageFiles + AllocGlobal, O: Write, E: Write>(
     rt: &R,
     words: &[String],
     out: &mut O,
     err: &mut E,
 ) -> u8
-    // Only a command whose runs have verdicts ends with 3 or 4.
-    ensures status { (result ≤ 4) × IfSome (command_of (map string_bytes words.now)) (λ command.
-        (facts_of command).has_verdict ≡ false → result ≤ 1) }
-
+    ensures status { result ≤ 4 }
     ensures wrong_words { ((result ≡ 2) ↔ AskForNothing (map string_bytes words.now))
         × (result ≡ 2 → out.new ≡ out.old) }
     ensures text { IfSome (asked_text (map string_bytes words.now)) (λ text.
@@ -65,11 +63,9 @@ pub fn run_words<R: Files + AllocGlobal, O: Write, E: Write>(
         × IfSome (explained_text (map string_bytes words.now)) (λ text.
         PrintsExplained result text (O.contents out.old) (O.contents out.new)) }
     ensures reports { Reports result E.contents err.old err.new }
-
-    // A table at a place that no image has is a fault whatever the image, and no line is printed.
-    ensures place { IfSome (command_of (map string_bytes words.now)) (λ command.
-        IfSome (facts_of command).place_fault (λ fault.
-        (result ≡ 1) × Keeps (O.contents out.old) (O.contents out.new))) }
+    ensures command { IfSome (command_of (map string_bytes words.now)) (λ command.
+        RunsLine command (R.file_at rt.now (image_name (map string_bytes words.now))) result
+        O.contents out.old out.new) }
 {
     match HelpText::parse(words) {
         Some(text) => print_asked(text, out, err),
@@ -79,22 +75,21 @@ pub fn run_words<R: Files + AllocGlobal, O: Write, E: Write>(
 
 // Runs words that ask for no text.
 #[tactic(auto, using(crate::proofs::ExplainLemmas::explained_is_no_command))]
-fn run_further<R: Files + AllocGlobal, O: Write, E: Write>(
+fn run_further<R: Files + ImageFiles + AllocGlobal, O: Write, E: Write>(
     rt: &R,
     words: &[String],
     out: &mut O,
     err: &mut E,
 ) -> u8
-    ensures status { (result ≤ 4) × IfSome (command_of (map string_bytes words.now)) (λ command.
-        (facts_of command).has_verdict ≡ false → result ≤ 1) }
+    ensures status { result ≤ 4 }
     ensures wrong_words { ((result ≡ 2) ↔ (command_of (map string_bytes words.now) ≡ None)
         × (explained_text (map string_bytes words.now) ≡ None)) × (result ≡ 2 → out.new ≡ out.old) }
     ensures explained { IfSome (explained_text (map string_bytes words.now)) (λ text.
         PrintsExplained result text (O.contents out.old) (O.contents out.new)) }
     ensures reports { Reports result E.contents err.old err.new }
-    ensures place { IfSome (command_of (map string_bytes words.now)) (λ command.
-        IfSome (facts_of command).place_fault (λ fault.
-        (result ≡ 1) × Keeps (O.contents out.old) (O.contents out.new))) }
+    ensures command { IfSome (command_of (map string_bytes words.now)) (λ command.
+        RunsLine command (R.file_at rt.now (image_name (map string_bytes words.now))) result
+        O.contents out.old out.new) }
 {
     match Question::parse(words) {
         Some(question) => explain(rt, &question, out, err),
@@ -103,7 +98,7 @@ fn run_further<R: Files + AllocGlobal, O: Write, E: Write>(
 }
 
 // Prints the text on a fault and where it is in an image, and returns the status.
-fn explain<R: Files + AllocGlobal, O: Write, E: Write>(
+fn explain<R: Files + ImageFiles + AllocGlobal, O: Write, E: Write>(
     rt: &R,
     question: &Question<'_>,
     out: &mut O,
@@ -137,26 +132,45 @@ fn print_asked<O: Write, E: Write>(text: HelpText, out: &mut O, err: &mut E) -> 
 }
 
 // Runs the command that words ask for, and returns the status: 2 where they ask for none.
-fn run_command<R: Files + AllocGlobal, O: Write, E: Write>(
+fn run_command<R: Files + ImageFiles + AllocGlobal, O: Write, E: Write>(
     rt: &R,
     words: &[String],
     out: &mut O,
     err: &mut E,
 ) -> u8
-    ensures status { (result ≤ 4) × IfSome (command_of (map string_bytes words.now)) (λ command.
-        (facts_of command).has_verdict ≡ false → result ≤ 1) }
+    ensures status { result ≤ 4 }
     ensures wrong_words { (result ≡ 2) ↔ (command_of (map string_bytes words.now) ≡ None) }
     ensures no_lines { result ≡ 2 → out.new ≡ out.old }
     ensures reports { Reports result E.contents err.old err.new }
-    ensures place { IfSome (command_of (map string_bytes words.now)) (λ command.
-        IfSome (facts_of command).place_fault (λ fault.
-        (result ≡ 1) × Keeps (O.contents out.old) (O.contents out.new))) }
+    ensures command { IfSome (command_of (map string_bytes words.now)) (λ command.
+        RunsLine command (R.file_at rt.now (image_name (map string_bytes words.now))) result
+        O.contents out.old out.new) }
 {
     let [name, image, arguments @ ..] = words else {
         return refuse_words(err);
     };
-    match Command::parse(rt.alloc(), name.as_str(), image.as_str(), arguments) {
-        Some(Ok(command)) => status_of(run_on_file(rt, image.as_str(), &command, out), err),
+    run_named(rt, name.as_str(), image.as_str(), arguments, out, err)
+}
+
+// Runs the command that a name, the image's name and the words after it ask for, and returns the status.
+fn run_named<R: ImageFiles + AllocGlobal, O: Write, E: Write>(
+    rt: &R,
+    name: &str,
+    image: &str,
+    arguments: &[String],
+    out: &mut O,
+    err: &mut E,
+) -> u8
+    ensures status { result ≤ 4 }
+    ensures wrong_words { (result ≡ 2)
+        ↔ (command_by_name name.now image.now (map string_bytes arguments.now) ≡ None) }
+    ensures no_lines { result ≡ 2 → out.new ≡ out.old }
+    ensures reports { Reports result E.contents err.old err.new }
+    ensures command { IfSome (command_by_name name.now image.now (map string_bytes arguments.now)) (λ command.
+        RunsLine command (R.file_at rt.now image.now) result O.contents out.old out.new) }
+{
+    match Command::parse(rt.alloc(), name, image, arguments) {
+        Some(Ok(command)) => status_of(run_on_file(rt.alloc(), rt, image, &command, out), err),
         Some(Err(error)) => report_fault(Fault::from(error), err),
         None => refuse_words(err),
     }
@@ -174,62 +188,72 @@ fn status_of<E: Write>(ran: Result<Verdict, Fault>, err: &mut E) -> u8
     }
 }
 
-// Opens the image of a file, for writing where the command may change it, and runs the command over it. One
-// that reads all tables reads them in pages as long as a cluster.
-fn run_on_file<R: Files + AllocGlobal, O: Write>(
-    rt: &R,
+/// Opens the image of a path, for writing where the command may change it, and runs the command over it. What
+/// it prints is flushed, also before a fault. One that reads all tables reads them in pages.
+///
+/// Returns 34 where the file can't be opened. `apply` returns 32 and the position of the first edit that maps
+/// a cluster past the end of the image's file, where that is a regular file, or that doesn't fit the disk.
+/// Else it returns what `run` does, and 34 where the flush fails.
+pub fn run_on_file<R: ImageFiles, O: Write>(
+    alloc: Global,
+    files: &R,
     path: &str,
     command: &Command,
     out: &mut O,
 ) -> Result<Verdict, Fault>
+    ensures runs { RunsOnFile command.now (R.file_at files.now path.now) result
+        O.contents out.old out.new }
     ensures place { IfSome (facts_of command.now).place_fault (λ fault.
         IsErr result × Keeps (O.contents out.old) (O.contents out.new)) }
     ensures before_any_line { (facts_of command.now).prints_before_faults ≡ false → IfErr result (λ fault.
         fault ≢ StorageFailed → Keeps (O.contents out.old) (O.contents out.new)) }
     ensures verdict { (facts_of command.now).has_verdict ≡ false → IfOk result (λ verdict. verdict ≡ Fine) }
 {
-    let mut file = FileStorage::open(rt, path, command.changes_image())?;
-    refuse_far_clusters(rt, path, &mut file, command)?;
+    let mut file = files.open_image(path, command.changes_image())?;
+    let header = find_header(alloc, &mut file, command)?;
+    refuse_far_clusters(files, path, &header, command)?;
     if !command.reads_all_tables() {
-        return run_and_flush(rt.alloc(), &mut file, command, out);
+        return run_and_flush(alloc, &mut file, header, command, out);
     }
-    let header = Header::load(rt.alloc(), &mut file, false)?;
-    let mut image = BufferedStorage::new(rt.alloc(), file, header.cluster_size())?;
-    run_and_flush(rt.alloc(), &mut image, command, out)
+    let mut image = BufferedStorage::new(alloc, file, header.cluster_size())?;
+    run_and_flush(alloc, &mut image, header, command, out)
 }
 
 // Refuses edits of a disk that map clusters past the end of the image's file, by 32 and the position of the
 // first that does, or that doesn't fit the disk. What isn't a regular file has no end that is known.
-fn refuse_far_clusters<R: Files + AllocGlobal>(
-    rt: &R,
+fn refuse_far_clusters<R: ImageFiles>(
+    files: &R,
     path: &str,
-    file: &mut FileStorage<R::File>,
+    header: &Header,
     command: &Command,
-) -> Result<(), Fault> {
+) -> Result<(), Fault>
+    ensures { ComparesWithFile (R.file_at files.now path.now) command.now header.now result }
+{
     let Command::Apply { edits, .. } = command else {
         return Ok(());
     };
-    let header = Header::load(rt.alloc(), file, false)?;
-    let Ok(metadata) = fs::metadata(rt, path) else {
-        return Err(Fault::Storage);
+    let Some(len) = files.image_len(path)? else {
+        return Ok(());
     };
-    if header.external_data_file() || !metadata.is_file() {
+    if header.external_data_file() {
         return Ok(());
     }
-    match first_unfit_in_file(&header, edits.as_slice(), metadata.len()) {
+    match first_unfit_in_file(header, edits.as_slice(), len) {
         Some(position) => Err(Fault::BadEdit(position)),
         None => Ok(()),
     }
 }
 
-// Runs a command over an image, and flushes what it printed, also before a fault.
+// Runs a command over an image with its header, and flushes what it printed, also before a fault.
 fn run_and_flush<S: Storage, O: Write>(
     alloc: Global,
     image: &mut S,
+    header: Header,
     command: &Command,
     out: &mut O,
 ) -> Result<Verdict, Fault>
-    ensures runs { RunsAndFlushes (facts_of command.now)
+    requires { IsHeaderFor (facts_of command.now) header }
+    ensures ends { EndsAndFlushes (facts_of command.now) header
         (run_over S.state O.contents result image.old image.new out.old out.new) }
     ensures place { IfSome (facts_of command.now).place_fault (λ fault.
         IsErr result × Keeps (O.contents out.old) (O.contents out.new)) }
@@ -237,7 +261,7 @@ fn run_and_flush<S: Storage, O: Write>(
         fault ≢ StorageFailed → Keeps (O.contents out.old) (O.contents out.new)) }
     ensures verdict { (facts_of command.now).has_verdict ≡ false → IfOk result (λ verdict. verdict ≡ Fine) }
 {
-    let ran = run(alloc, image, command, out);
+    let ran = run_with(alloc, image, header, command, out);
     after_flush(ran, out.flush())
 }
 
@@ -277,6 +301,28 @@ pub fn run<S: Storage, O: Write>(
     ensures verdict { (facts_of command.now).has_verdict ≡ false → IfOk result (λ verdict. verdict ≡ Fine) }
 {
     let header = find_header(alloc, image, command)?;
+    run_with(alloc, image, header, command, out)
+}
+
+// Runs a command over an image with its header.
+fn run_with<S: Storage, O: Write>(
+    alloc: Global,
+    image: &mut S,
+    header: Header,
+    command: &Command,
+    out: &mut O,
+) -> Result<Verdict, Fault>
+    requires { IsHeaderFor (facts_of command.now) header }
+    ensures ends { (facts_of command.now).Ends header
+        (run_over S.state O.contents result image.old image.new out.old out.new) }
+    ensures at_once { (facts_of command.now).prints_before_faults ≡ false →
+        PrintsLast (run_over S.state O.contents result image.old image.new out.old out.new) }
+    ensures unchanged { (facts_of command.now).changes_image ≡ false →
+        (S.state image.new).byte_at ≡ (S.state image.old).byte_at }
+    ensures place { IfSome (facts_of command.now).place_fault (λ fault.
+        IsErr result × (out.new ≡ out.old)) }
+    ensures verdict { (facts_of command.now).has_verdict ≡ false → IfOk result (λ verdict. verdict ≡ Fine) }
+{
     match command {
         Command::Info => fine(print_info(&header, out)),
         Command::List => fine(list_tables(alloc, image, &header, out)),

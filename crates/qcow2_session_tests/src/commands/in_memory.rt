@@ -4,10 +4,10 @@ use super::run::words_of;
 use super::whole_images::INFO;
 use crate::failing_output::{FailingOutput, Failure};
 use crate::sample_image::{COPIED, Numbers, check_sample, counted, sample_image};
-use qcow2_base::{Fault, Storage};
-use qcow2_calls::{parse_command, run};
-use qcow2_session::Verdict;
-use qcow2_testing::{each, rows, same};
+use qcow2_base::{Fault, FileStorage, Storage};
+use qcow2_calls::{parse_command, run, run_on_file};
+use qcow2_session::{Command, Verdict};
+use qcow2_testing::{KnownFile, KnownFiles, each, rows, same};
 use std::alloc::Global;
 use std::test::Fail;
 
@@ -165,6 +165,59 @@ fn check_row(alloc: Global, row: Row) -> Result<(), Fail> {
     check_sample(alloc, image.bytes(), (9, row.after), row.line)
 }
 
+// How many bytes a file is read and written by at a time.
+const STEP: usize = 100;
+
+// More bytes than the image of any row has.
+const WHOLE: usize = 8192;
+
+#[test]
+fn a_command_runs_over_a_known_file_as_over_its_bytes(rt: HostRuntime) -> Result<(), Fail> {
+    each(rt.alloc(), ROWS, check_over_file)
+}
+
+fn check_over_file(alloc: Global, row: Row) -> Result<(), Fail> {
+    let bytes = sample_image(alloc, 9, row.before)?;
+    let len = bytes.bytes().len().min(WHOLE);
+    let file = KnownFile::new(Vec::from_slice(alloc, bytes.bytes())?, STEP);
+    let mut image = FileStorage::new(file);
+    let mut out = FailingOutput::new(alloc, Failure::Never);
+    let answer = run_command(alloc, &mut image, row.line, &mut out)?;
+    let found = (answer, std::str::from_utf8(out.bytes())?);
+    same(found, (row.answer, row.printed), row.line)?;
+    let mut left = [0; WHOLE];
+    image.read(&mut left, 0)?;
+    check_sample(alloc, &left[..len], (9, row.after), row.line)
+}
+
+#[test]
+fn a_command_runs_over_the_known_file_of_a_path(rt: HostRuntime) -> Result<(), Fail> {
+    each(rt.alloc(), ROWS, check_on_file)
+}
+
+fn check_on_file(alloc: Global, row: Row) -> Result<(), Fail> {
+    let image = sample_image(alloc, 9, row.before)?;
+    let files = KnownFiles::new(alloc, image.bytes(), STEP);
+    let mut out = FailingOutput::new(alloc, Failure::Never);
+    let answer = match command_of(alloc, row.line)? {
+        Some(Ok(command)) => Some(run_on_file(alloc, &files, "IMAGE", &command, &mut out)),
+        Some(Err(fault)) => Some(Err(fault)),
+        None => None,
+    };
+    let found = (answer, std::str::from_utf8(out.flushed())?);
+    same(found, (row.answer, row.printed), row.line)
+}
+
+// The command of a line, if it is one.
+fn command_of(alloc: Global, line: &str) -> Result<Option<Result<Command, Fault>>, Fail> {
+    let words = words_of(alloc, line, "IMAGE")?;
+    let [name, path, arguments @ ..] = words.as_slice() else {
+        return Ok(None);
+    };
+    let parsed = parse_command(alloc, name.as_str(), path.as_str(), arguments);
+    Ok(parsed.map(|command| command.map_err(Fault::from)))
+}
+
 /// What the command of a line returns.
 pub(crate) fn run_command<S: Storage>(
     alloc: Global,
@@ -172,15 +225,9 @@ pub(crate) fn run_command<S: Storage>(
     line: &str,
     out: &mut FailingOutput,
 ) -> Result<Answer, Fail> {
-    let words = words_of(alloc, line, "IMAGE")?;
-    let [name, path, arguments @ ..] = words.as_slice() else {
-        return Ok(None);
-    };
-    Ok(
-        match parse_command(alloc, name.as_str(), path.as_str(), arguments) {
-            Some(Ok(command)) => Some(run(alloc, image, &command, out)),
-            Some(Err(error)) => Some(Err(Fault::from(error))),
-            None => None,
-        },
-    )
+    Ok(match command_of(alloc, line)? {
+        Some(Ok(command)) => Some(run(alloc, image, &command, out)),
+        Some(Err(fault)) => Some(Err(fault)),
+        None => None,
+    })
 }

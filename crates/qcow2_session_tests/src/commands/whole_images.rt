@@ -370,22 +370,21 @@ struct Calls<'a> {
     harmless: Option<u64>,
 }
 
-// Each asks for the file's kind by one call, and reads the header's 512 bytes by nine: 104 by three, and
-// 408 by six. A read sets the place and goes on until it has its bytes; where the file gives no more, it
-// asks for the length. A write sets the place, goes on until all is written, and flushes. An L1 table of one
-// entry takes two calls, a table of 512 bytes seven, a block past the end three; to write one of these takes
-// eight. A place past the end need not be one that the file can be set to. After the header `list` and `map`
-// read one page, of whose 4096 bytes the file has 1536: they set the place, read 16 times and once more, and
-// ask for the length.
+// Each asks for the file's kind by one call, and reads the header's 512 bytes by 14: 104 by two reads, and
+// 408 by five. A read sets the place before it asks for bytes; where the file gives no more, it asks for the
+// length. A write sets the place, and passes on what it wrote. An L1 table of one entry takes two calls, a
+// table of 512 bytes twelve, a block past the end three; to write one of these takes 18. A place past the
+// end need not be one that the file can be set to. After the header `list` and `map` read one page, of whose
+// 4096 bytes the file has 1536: by 16 reads and one that gives none, and they ask for the length.
 const CALLS: &[Calls<'static>] = rows! { Calls:
-    { line: "l2 IMAGE 9 2", printed: ONE_LINE, calls: 1 + 7, harmless: None },
-    { line: "info IMAGE", printed: INFO, calls: 1 + 9, harmless: None },
-    { line: "list IMAGE", printed: LIST, calls: 1 + 9 + 19, harmless: None },
-    { line: "map IMAGE", printed: EXTENTS, calls: 1 + 9 + 19, harmless: None },
-    { line: "at IMAGE 1543", printed: DATA_LINE, calls: 1 + 9 + 2 + 7, harmless: None },
-    { line: "edit IMAGE 0 map:3:6", printed: MAPPED, calls: 1 + 9 + 2 + 7 + 8, harmless: None },
-    { line: "count IMAGE 3 inc:0 dec:1", printed: "ok 0\nrefused\n", calls: 1 + 9 + 3 + 8,
-        harmless: Some(1 + 9) },
+    { line: "l2 IMAGE 9 2", printed: ONE_LINE, calls: 1 + 12, harmless: None },
+    { line: "info IMAGE", printed: INFO, calls: 1 + 14, harmless: None },
+    { line: "list IMAGE", printed: LIST, calls: 1 + 14 + 35, harmless: Some(1 + 14 + 32) },
+    { line: "map IMAGE", printed: EXTENTS, calls: 1 + 14 + 35, harmless: Some(1 + 14 + 32) },
+    { line: "at IMAGE 1543", printed: DATA_LINE, calls: 1 + 14 + 2 + 12, harmless: None },
+    { line: "edit IMAGE 0 map:3:6", printed: MAPPED, calls: 1 + 14 + 2 + 12 + 18, harmless: None },
+    { line: "count IMAGE 3 inc:0 dec:1", printed: "ok 0\nrefused\n", calls: 1 + 14 + 3 + 18,
+        harmless: Some(1 + 14) },
 };
 
 #[test]

@@ -3,13 +3,13 @@ use Rattle.qcow2_session.proofs.CommandsLemmas.{IfSome-follows, own-refused}
 use Rattle.qcow2_session.proofs.RunningLemmas.{answer-flushed}
 use Rattle.qcow2_session.proofs.commands.running.run_and_flush.Goals as goal
 
-pub returns-clause-runs : goal.returns-clause-runs
-returns-clause-runs g c = (
-  c.run-ran.result,
+pub returns-clause-ends : goal.returns-clause-ends
+returns-clause-ends g c = (
+  c.run_with-ran.result,
   _,
-  c.run-ran.ensures.runs,
+  c.run_with-ran.ensures.ends,
   c.flush.ensures.bytes,
-  answer-flushed c.run-ran.result _ c.flush.result c.after_flush.ensures.own c.after_flush.ensures.flush,
+  answer-flushed c.run_with-ran.result _ c.flush.result c.after_flush.ensures.own c.after_flush.ensures.flush,
 )
 
 pub returns-clause-place : goal.returns-clause-place

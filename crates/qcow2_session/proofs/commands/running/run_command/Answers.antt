@@ -1,17 +1,19 @@
-use Rattle.std.proofs.Common.{arith}
+use Rattle.std.proofs.Common.{◌-◌, ap, arith, drop, length, map, string_bytes, take}
 use Rattle.std.proofs.lemmas.List.{length-map}
 use Rattle.qcow2_session.proofs.CommandsLemmas.{too_few_words}
-use Rattle.qcow2_session.proofs.RunningLemmas.{reports-run}
+use Rattle.qcow2_session.proofs.RunningOnFilesLemmas.{line-of-words, two-items}
+use Rattle.qcow2_session.specs.Commands.RunningOnFiles.{RunsLine}
 use Rattle.qcow2_session.proofs.commands.running.run_command.Goals as goal
-
-pub returns-in-Some-Ok-clause-reports : goal.returns-in-Some-Ok-clause-reports
-returns-in-Some-Ok-clause-reports g c = reports-run _ _ _ _ _ c.status_of.ensures.status c.status_of.ensures.line
 
 pub returns-in_default-clause-wrong_words : goal.returns-in_default-clause-wrong_words
 returns-in_default-clause-wrong_words g c = grind (arith, too_few_words, length-map)
 
-pub returns-in_default-clause-place : goal.returns-in_default-clause-place
-returns-in_default-clause-place g c = grind (arith, too_few_words, length-map)
+pub returns-in_default-clause-command : goal.returns-in_default-clause-command
+returns-in_default-clause-command g c = grind (arith, too_few_words, length-map)
 
-pub returns-in_default-clause-status : goal.returns-in_default-clause-status
-returns-in_default-clause-status g c = grind (arith, too_few_words, length-map)
+pub returns-clause-command : goal.returns-clause-command
+returns-clause-command g c =
+    let items = two-items c.args.words.now c.name-item.result c.image-item.result c.in-len2-up.len_at_least c.name-item.is c.image-item.is in
+    line-of-words (map string_bytes c.args.words.now) c.as_str.result.now c.as_str-2.result.now (map string_bytes (take (length c.args.words.now - 2) (drop 2 c.args.words.now)))
+    (λ command image. RunsLine command (g.R.ImageFiles.file_at c.args.rt.now image) c.run_named.result g.O.Write.contents c.args.out.now c.run_named.new.out)
+    (rw (c.as_str.ensures.value, c.as_str-2.ensures.value) (ap (map string_bytes) items)) c.run_named.ensures.command

@@ -7,13 +7,10 @@ use Rattle.qcow2_session.specs.Commands.Explain.{explained_text}
 use Rattle.qcow2_session.proofs.commands.running.run_further.Goals as goal
 
 pub returns-in-Some-clause-status : goal.returns-in-Some-clause-status
-returns-in-Some-clause-status g c =
-    let words = map string_bytes c.args.words.now in
-    let asked : explained_text words ≡ Some c.in-Some.question.text.now = search rules in
-    (asked_status _ _ _ _ c.explain.ensures.text.1, IfSome-none _ (command_of words) (explained_is_no_command words c.in-Some.question.text.now asked))
+returns-in-Some-clause-status g c = asked_status _ _ _ _ c.explain.ensures.text.1
 
-pub returns-in-Some-clause-place : goal.returns-in-Some-clause-place
-returns-in-Some-clause-place g c =
+pub returns-in-Some-clause-command : goal.returns-in-Some-clause-command
+returns-in-Some-clause-command g c =
     let words = map string_bytes c.args.words.now in
     let asked : explained_text words ≡ Some c.in-Some.question.text.now = search rules in
     IfSome-none _ (command_of words) (explained_is_no_command words c.in-Some.question.text.now asked)

@@ -7,8 +7,8 @@ use Rattle.qcow2_session.specs.Commands.Explain.{explained_text}
 use Rattle.qcow2_session.specs.Commands.Help.{asked_text, text_of}
 use Rattle.qcow2_session.proofs.commands.running.run_words.Goals as goal
 
-pub returns-in-Some-clause-place : goal.returns-in-Some-clause-place
-returns-in-Some-clause-place g c =
+pub returns-in-Some-clause-command : goal.returns-in-Some-clause-command
+returns-in-Some-clause-command g c =
     let words = map string_bytes c.args.words.now in
     IfSome-none _ (command_of words) (asked_is_no_command words (text_of c.in-Some.text) (search rules))
 
@@ -19,6 +19,4 @@ returns-in-Some-clause-text g c =
     (rw asked c.print_asked.ensures.text, IfSome-none _ (explained_text words) (asked_is_not_explained words (text_of c.in-Some.text) asked))
 
 pub returns-in-Some-clause-status : goal.returns-in-Some-clause-status
-returns-in-Some-clause-status g c =
-    let words = map string_bytes c.args.words.now in
-    (asked_status _ _ _ _ c.print_asked.ensures.text, IfSome-none _ (command_of words) (asked_is_no_command words (text_of c.in-Some.text) (search rules)))
+returns-in-Some-clause-status g c = asked_status _ _ _ _ c.print_asked.ensures.text

@@ -1,0 +1,38 @@
+-- What is known of a file that an image lies in, and what do reads and writes of it change?
+use Rattle.std.specs.Prelude.{◌≡◌, ℕ, ◌<◌, ◌≤◌, Bool, false, IsTrue, List, length, take, Result, IfOk}
+use Rattle.qcow2_base.specs.Storage.{Holds, Image, SameOutside}
+
+-- what is known of a file: whether its bytes are known, these bytes, 0 past its end, and how many there are
+pub record FileContent : Type 0 where
+  pub tells : Bool
+  pub byte_at : Image
+  pub len : ℕ
+
+-- what is known of a file whose bytes aren't
+abbrev pub unknown_content : FileContent
+unknown_content = record { tells = false; byte_at = λ _. 0; len = 0 }
+
+-- where a file's bytes are known, this fact holds
+abbrev pub OnFile : FileContent → Type 0 → Type 0
+OnFile file Fact = IsTrue file.tells → Fact
+
+-- a read of a file from an offset on that ended in this answer, and left these bytes in the buffer: it gave the first of
+-- them, and none of them only past the file's end
+pub record ReadsSome {E : Type 0} (answer : Result ℕ E) (offset : ℕ) (buffer : List ℕ) (old new : FileContent) : Type 0 where
+  pub count : IfOk answer (λ count. count ≤ length buffer)
+  pub read : IfOk answer (λ count. OnFile old (Holds old.byte_at offset (take count buffer)))
+  pub end : IfOk answer (λ count. count ≡ 0 → 0 < length buffer → OnFile old (old.len ≤ offset))
+  pub unchanged : new ≡ old
+
+-- a write of these bytes from an offset on that ended in this answer: it took the first of them, and no byte outside their
+-- range changes
+pub record WritesSome {E : Type 0} (answer : Result ℕ E) (offset : ℕ) (bytes : List ℕ) (old new : FileContent) : Type 0 where
+  pub count : IfOk answer (λ count. count ≤ length bytes)
+  pub written : IfOk answer (λ count. OnFile old (Holds new.byte_at offset (take count bytes)))
+  pub others : OnFile old (SameOutside offset (length bytes) old.byte_at new.byte_at)
+  pub tells : new.tells ≡ old.tells
+
+-- a question for the file's length that ended in this answer
+pub record TellsLength {E : Type 0} (answer : Result ℕ E) (old new : FileContent) : Type 0 where
+  pub len : IfOk answer (λ len. OnFile old (len ≡ old.len))
+  pub unchanged : new ≡ old

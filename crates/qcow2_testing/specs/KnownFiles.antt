@@ -1,0 +1,14 @@
+-- What is known of a file in memory?
+use Rattle.std.specs.Prelude.{true, List, ℕ, length}
+use Rattle.qcow2_base.specs.Storage.{image_of}
+use Rattle.qcow2_base.specs.Storage.ImageFile.{FileContent}
+use Rattle.qcow2_base.specs.Storage.Memory.{memory_bytes}
+use Rattle.qcow2_testing.specs.declared.known_files.KnownFile.{KnownFile}
+
+-- a file of these bytes
+abbrev pub content_of : List ℕ → FileContent
+content_of bytes = record { tells = true; byte_at = image_of bytes; len = length bytes }
+
+-- what is known of one in memory
+abbrev pub known_content : KnownFile → FileContent
+known_content file = content_of (memory_bytes file.image)

@@ -1,0 +1,143 @@
+//! Files in memory whose bytes are known, which go a few bytes at a time and are interrupted.
+
+ghost use Rattle.std.specs.Prelude.{◌≡◌, ◌<◌, ◌≤◌, ◌+◌, IfOk, length};
+ghost use Rattle.qcow2_base.specs.Format.{max_file_length};
+ghost use Rattle.qcow2_base.specs.Storage.Memory.{memory_bytes};
+ghost use Rattle.std.proofs.lemmas.List.{get_or_past};
+
+use qcow2_base::{Fault, FileStorage, ImageFile, ImageFiles, MAX_FILE_LENGTH, MemStorage, Storage};
+use std::alloc::Global;
+use std::io;
+use std::io::ErrorKind;
+
+/// A file in memory, whose bytes are known. A call reads or writes a few bytes, and every other one is
+/// interrupted.
+#[derive(Debug, Drop)]
+pub struct KnownFile {
+    image: MemStorage,
+    step: usize,
+    is_interrupted: bool,
+    ghost goes_on: { 0 < step },
+}
+
+impl KnownFile {
+    ghost use Rattle.qcow2_testing.specs.KnownFiles.{content_of, known_content};
+
+    /// A file of these bytes, of which a call reads or writes this many at most. A step of 0 counts as 1.
+    pub fn new(bytes: Vec<u8>, step: usize) -> KnownFile
+        ensures { known_content result ≡ content_of bytes.items }
+    {
+        KnownFile {
+            image: MemStorage::new(bytes),
+            step: step.max(1),
+            is_interrupted: false,
+        }
+    }
+
+    /// Its bytes.
+    pub fn bytes(&self) -> &[u8]
+        ensures { result.now ≡ memory_bytes self.now.image }
+    {
+        self.image.bytes()
+    }
+
+    // Fails every other time.
+    fn interrupt(&mut self) -> io::Result<()>
+        ensures image { self.new.image ≡ self.old.image }
+        ensures step { self.new.step ≡ self.old.step }
+    {
+        self.is_interrupted = !self.is_interrupted;
+        if self.is_interrupted {
+            return Err(ErrorKind::Interrupted.into());
+        }
+        Ok(())
+    }
+}
+
+// Refuses bytes that no storage has.
+fn refuse_far(offset: u64, len: usize) -> io::Result<()>
+    ensures { IfOk result (λ _. offset + len ≤ max_file_length) }
+{
+    if offset > MAX_FILE_LENGTH || len as u64 > MAX_FILE_LENGTH - offset {
+        return Err(ErrorKind::InvalidInput.into());
+    }
+    Ok(())
+}
+
+impl ImageFile for KnownFile {
+    ghost use Rattle.qcow2_testing.specs.KnownFiles.{known_content};
+
+    ghost content = { known_content };
+
+    fn read_at(&mut self, buf: &mut [u8], offset: u64) -> io::Result<usize> {
+        self.interrupt()?;
+        let left = (self.image.bytes().len() as u64).saturating_sub(offset) as usize;
+        let count = left.min(buf.len()).min(self.step);
+        refuse_far(offset, count)?;
+        match self.image.read(&mut buf[..count], offset) {
+            Ok(()) => Ok(count),
+            Err(_) => Err(ErrorKind::Other.into()),
+        }
+    }
+
+    fn write_at(&mut self, buf: &[u8], offset: u64) -> io::Result<usize> {
+        self.interrupt()?;
+        let count = buf.len().min(self.step);
+        refuse_far(offset, count)?;
+        match self.image.write(&buf[..count], offset) {
+            Ok(()) => Ok(count),
+            Err(_) => Err(ErrorKind::OutOfMemory.into()),
+        }
+    }
+
+    fn file_len(&mut self) -> io::Result<u64> {
+        Ok(self.image.bytes().len() as u64)
+    }
+
+    fn sync_bytes(&mut self) -> io::Result<()> {
+        Ok(())
+    }
+
+    ghost byte_fits = { λ file offset. file.image.bytes_fit offset };
+
+    ghost ends = { λ file offset past. get_or_past (memory_bytes file.image) offset 0 past };
+}
+
+/// Files of which each holds these bytes, and which go that many at a time.
+#[derive(Drop)]
+pub struct KnownFiles<'a> {
+    alloc: Global,
+    bytes: &'a [u8],
+    step: usize,
+}
+
+impl<'a> KnownFiles<'a> {
+    /// Files of which each holds these bytes, as its own, and goes this many at a time.
+    pub fn new(alloc: Global, bytes: &'a [u8], step: usize) -> KnownFiles<'a>
+        ensures { result.bytes.now ≡ bytes.now }
+    {
+        KnownFiles { alloc, bytes, step }
+    }
+}
+
+impl ImageFiles for KnownFiles<'_> {
+    ghost use Rattle.qcow2_testing.specs.KnownFiles.{content_of};
+
+    type Image = KnownFile;
+
+    ghost file_at = { λ files _. content_of files.bytes.now };
+
+    fn open_image(&self, path: &str, writable: bool) -> Result<FileStorage<KnownFile>, Fault> {
+        let _ = path;
+        let _ = writable;
+        match Vec::from_slice(self.alloc, self.bytes) {
+            Ok(bytes) => Ok(FileStorage::new(KnownFile::new(bytes, self.step))),
+            Err(_) => Err(Fault::Storage),
+        }
+    }
+
+    fn image_len(&self, path: &str) -> Result<Option<u64>, Fault> {
+        let _ = path;
+        Ok(Some(self.bytes.len() as u64))
+    }
+}
