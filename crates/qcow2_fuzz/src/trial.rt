@@ -253,11 +253,12 @@ impl<'a, O: Write> Trial<'a, O> {
 
 /// Whether bytes are the expected ones from a place on. The shorter ones count as if zeros followed.
 pub(crate) fn is_same_from(found: &[u8], expected: &[u8], start: usize) -> bool {
-    let end = found.len().min(expected.len());
-    let start = start.min(end);
-    found.get(start..end) == expected.get(start..end)
-        && are_zeros(found.get(end..).unwrap_or(&[]))
-        && are_zeros(expected.get(end..).unwrap_or(&[]))
+    let both = found.len().min(expected.len());
+    let first = start.min(both);
+    let rest = start.max(both);
+    found.get(first..both) == expected.get(first..both)
+        && are_zeros(found.get(rest..).unwrap_or(&[]))
+        && are_zeros(expected.get(rest..).unwrap_or(&[]))
 }
 
 fn are_zeros(bytes: &[u8]) -> bool {
