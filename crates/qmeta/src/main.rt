@@ -12,6 +12,10 @@ use std::process::ExitCode;
 use std::rt::Files;
 use std::{fs, io};
 
+// How many bytes are kept of what is printed before the system is asked to take them. A long list is
+// printed by as few calls as a pipe allows.
+const OUTPUT_BUFFER: usize = 65536;
+
 // What words ask for, of an image.
 #[derive(Drop)]
 struct Asked<'a> {
@@ -45,7 +49,7 @@ fn run_watched(rt: &HostRuntime, words: &[String], tables: &[WatchedTable]) -> R
     let files = WatchedFiles::new(rt, &progress);
     let out = WatchedOutput::new(rt.stdout(), &progress, rt.stdout().is_terminal());
     let mut err = WatchedOutput::new(rt.stderr(), &progress, true);
-    let Ok(mut out) = BufWriter::new(rt.alloc(), out) else {
+    let Ok(mut out) = BufWriter::with_capacity(rt.alloc(), OUTPUT_BUFFER, out) else {
         return Err(Fault::NoMemory);
     };
     let status = qcow2_session::run_words(&files, words, &mut out, &mut err);
