@@ -28,7 +28,7 @@ use Rattle.qcow2_base.specs.declared.fault.Fault.{Fault}
 use Rattle.qcow2_base.specs.declared.fault.Fault.TheVariants.{NoMemory, Storage}
 use Rattle.qcow2_metadata.proofs.TableLemmas.{first_fault-append, first_fault-join}
 use Rattle.qcow2_metadata.specs.Results.{unless_refused}
-use Rattle.qcow2_metadata.specs.Table.{TableState, first_fault, l2_layout}
+use Rattle.qcow2_metadata.specs.Table.{first_fault, l2_layout}
 use Rattle.qcow2_check.specs.Counters.{CountersState, IsSameButBlock, block_of_cluster}
 
 -- a reader of counters that keeps another block reads the same tables

@@ -1,4 +1,4 @@
-use Rattle.std.proofs.Common.{◌≡◌, ℕ, zero, suc, ◌+◌, ◌-◌, ◌^◌, ◌<◌, ◌≤◌, List, [], ◌∷◌, ◌++◌, drop, take, length, replicate, slice_index, refl, sym, ap, ◌∙◌, add-zero, add_assoc, arith, inl, inr, lit<, length-append, length-drop, length-take-le}
+use Rattle.std.proofs.Common.{◌≡◌, ℕ, zero, suc, Result, Ok, Err, IfOk, ◌+◌, ◌-◌, ◌^◌, ◌<◌, ◌≤◌, List, [], ◌∷◌, ◌++◌, drop, take, length, replicate, slice_index, refl, sym, ap, ◌∙◌, add-zero, add_assoc, arith, inl, inr, lit<, length-append, length-drop, length-take-le}
 use Rattle.std.proofs.lemmas.Bool.{cases_lt}
 use Rattle.std.proofs.lemmas.List.{get_or_append_left, get_or-append_right}
 use Rattle.std.proofs.lemmas.Nat.{mul-add-lt, same_from_place}
@@ -6,7 +6,7 @@ use Rattle.std.proofs.Math.Nat.{pow-suc}
 use mathlib.Core.Path.{fun_ext}
 use lib.Seq.{take-add}
 use Rattle.qcow2_base.specs.Storage.{Holds, Image, IsBytes, SameOutside, be, image_of}
-use Rattle.qcow2_base.specs.Storage.ImageFile.{FileContent, OnFile}
+use Rattle.qcow2_base.specs.Storage.ImageFile.{FileContent, OnFile, reach}
 
 -- two images that agree over n bytes have the same number there
 pub be_of_same : (f g : Image) (n o p : ℕ) → ((k : ℕ) → k < n → f (o + k) ≡ g (p + k)) → be f o n ≡ be g p n
@@ -78,6 +78,16 @@ kept_before : (old new : Image) (offset len : ℕ) (front : List ℕ) → SameOu
 kept_before old new offset len front same has = record {
   each = λ i below. has.each i below ∙ sym (same.before (offset + i) (omega (arith, below)));
 }
+
+-- a write of at most that many bytes changes no byte outside the range of all of them
+pub within_reach : {E : Type 0} (answer : Result ℕ E) (file : FileContent) (offset len : ℕ) (old new : Image) →
+    IfOk answer (λ count. count ≤ len) → OnFile file (SameOutside offset (reach answer len) old new) →
+    OnFile file (SameOutside offset len old new)
+within_reach (Ok count) file offset len old new most same = λ tells. record {
+  before = (same tells).before;
+  after = λ o late. (same tells).after o (omega (arith, most, late));
+}
+within_reach (Err error) file offset len old new most same = same
 
 -- a write of the rest of some bytes to a file that may be known leaves what was written before, and changes no byte
 -- outside the range of all

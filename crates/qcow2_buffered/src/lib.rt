@@ -48,25 +48,31 @@ fn new_pages(alloc: Global, size: usize) -> Result<Vec<Page>, AllocError>
 }
 
 impl<S: Storage + Drop> BufferedStorage<S> {
-    ghost use Rattle.std.specs.Prelude.{◌≡◌, IfOk};
+    ghost use Rattle.std.specs.Prelude.{◌≡◌, MatchResult};
     ghost use Rattle.qcow2_buffered.specs.Buffered.{inner_of};
 
     /// The same as a storage, with pages as long as an image's clusters, but of 4096 bytes at least and of
-    /// 65536 at most. Fails only where memory runs out.
-    pub fn new(
-        alloc: Global,
-        inner: S,
-        cluster_size: usize,
-    ) -> Result<BufferedStorage<S>, AllocError>
-        ensures { IfOk result (λ storage. inner_of storage ≡ inner) }
+    /// 65536 at most. Returns that storage where memory runs out.
+    pub fn new(alloc: Global, inner: S, cluster_size: usize) -> Result<BufferedStorage<S>, S>
+        ensures { MatchResult result (λ storage. inner_of storage ≡ inner) (λ back. back ≡ inner) }
     {
         let size = cluster_size.clamp(FEWEST_BYTES, MOST_BYTES);
-        Ok(BufferedStorage {
-            inner,
-            size,
-            pages: new_pages(alloc, size)?,
-            turn: 0,
-        })
+        match new_pages(alloc, size) {
+            Ok(pages) => Ok(BufferedStorage {
+                inner,
+                size,
+                pages,
+                turn: 0,
+            }),
+            Err(_) => Err(inner),
+        }
+    }
+
+    /// The storage below, without the pages.
+    pub fn into_inner(self) -> S
+        ensures { result ≡ inner_of self }
+    {
+        self.inner
     }
 }
 

@@ -161,7 +161,7 @@ pub fn run<S: Storage, O: Write>(
 /// `qcow2_session::run_on_file`.
 pub fn run_on_file<R: ImageFiles, O: Write>(
     alloc: Global,
-    files: &R,
+    files: &mut R,
     path: &str,
     command: &Command,
     out: &mut O,

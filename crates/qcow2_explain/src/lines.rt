@@ -53,7 +53,9 @@ fn locate_in_file<R: Files + AllocGlobal>(
     let mut file = FileStorage::open(rt, path, false)?;
     match Header::load(rt.alloc(), &mut file, false) {
         Ok(header) => {
-            let mut image = BufferedStorage::new(rt.alloc(), file, header.cluster_size())?;
+            let Ok(mut image) = BufferedStorage::new(rt.alloc(), file, header.cluster_size()) else {
+                return Err(Fault::NoMemory);
+            };
             locate_fault(rt.alloc(), &mut image, number, path)
         }
         Err(_) => locate_fault(rt.alloc(), &mut file, number, path),

@@ -144,8 +144,17 @@ impl<'a, R: Files, C: Clock, E: Write + Copy> ImageFiles for WatchedFiles<'a, R,
 
     ghost file_at = { λ _ _. unknown_content };
 
-    fn open_image(&self, path: &str, writable: bool) -> Result<FileStorage<Self::Image>, Fault> {
+    fn open_image(
+        &mut self,
+        path: &str,
+        writable: bool,
+    ) -> Result<FileStorage<Self::Image>, Fault> {
         FileStorage::open(self, path, writable)
+    }
+
+    fn close_image(&mut self, path: &str, file: Self::Image) {
+        let _ = path;
+        drop(file);
     }
 
     fn image_len(&self, path: &str) -> Result<Option<u64>, Fault> {

@@ -7,69 +7,60 @@ use Rattle.qcow2_base.specs.Storage.ImageFile.{FileContent}
 use Rattle.qcow2_base.specs.declared.fault.Fault.{Fault}
 use Rattle.qcow2_base.specs.declared.fault.Fault.TheVariants.{NoMemory, Storage}
 use Rattle.qcow2_metadata.specs.Header.{HeaderRecord}
+use Rattle.qcow2_session.proofs.PrintingLemmas.{run_between}
 use Rattle.qcow2_session.specs.Commands.{command_by_name, command_of, facts_of, image_name}
-use Rattle.qcow2_session.specs.Commands.Printing.{OutputBytes}
-use Rattle.qcow2_session.specs.Commands.RunningOnFiles.{AreNear, IsFarEdit, RunsLine, RunsOnFile}
-use Rattle.qcow2_session.specs.Commands.Running.{EndsAndFlushes, FindsHeader}
+use Rattle.qcow2_session.specs.Commands.Printing.{AppendsPart, OutputBytes}
+use Rattle.qcow2_session.specs.Commands.Report.{fault_line}
+use Rattle.qcow2_session.specs.Commands.RunningOnFiles.{AreNear, IsFarEdit, ReportsFault, RunsLine, RunsOnFile, RunsWords, StopsOrEnds}
+use Rattle.qcow2_session.specs.Commands.Running.{AfterHeader, EndsAndFlushes, FindsHeader}
 use Rattle.qcow2_session.specs.Commands.Verdict.{status_of_verdict}
 use Rattle.qcow2_session.specs.Commands.Words.{Word, WordList}
 use Rattle.qcow2_session.specs.declared.commands.Command.{Command}
 use Rattle.qcow2_session.specs.declared.commands.verdict.Verdict.{Verdict}
 use Rattle.qcow2_session.specs.declared.commands.verdict.Verdict.TheVariants.{Fine}
 
--- a run over a file found no header
-pub no-header-on-file : {O : Type 0} (command : Command) (file : FileContent) (fault : Fault) (contents : O → OutputBytes) (old left : StorageState) (out : O)
-    → old ≡ state_over file 0 → FindsHeader (facts_of command) (Err fault) old left → RunsOnFile command file (Err fault) contents out out
-no-header-on-file command file fault contents old left out opened finds =
-    inr (left, (Err fault, left, subst (λ (s : StorageState). FindsHeader (facts_of command) (Err fault) s left) opened finds, (refl, refl, refl)))
+-- a run found its header, and stopped before its command
+pub stopped-before : {O : Type 0} (command : Command) (file : FileContent) (header : HeaderRecord) (fault : Fault) (contents : O → OutputBytes) (old left : StorageState) (out : O)
+    → FindsHeader (facts_of command) (Ok header) old left
+    → (fault ≡ NoMemory) ⊎ (fault ≡ Storage) ⊎ IsFarEdit file command header fault
+    → AfterHeader (facts_of command) (StopsOrEnds file command) (run_between contents (Err fault) old left out out)
+stopped-before command file header fault contents old left out finds why =
+    (Ok header, left, finds, inl (record { fault = why; bytes = refl; output = refl }))
 
--- or it found one, and stopped before its command
-pub stopped-on-file : {O : Type 0} (command : Command) (file : FileContent) (header : HeaderRecord) (fault : Fault) (contents : O → OutputBytes) (old left : StorageState) (out : O)
-    → old ≡ state_over file 0 → FindsHeader (facts_of command) (Ok header) old left
-    → (fault ≡ NoMemory) ⊎ (fault ≡ Storage) ⊎ IsFarEdit file command header fault → RunsOnFile command file (Err fault) contents out out
-stopped-on-file command file header fault contents old left out opened finds why =
-    inr (
+-- or its command ran, over what the header left, and what it left is the image
+pub ran-between : {O : Type 0} (command : Command) (file : FileContent) (header : HeaderRecord) (answer : Result Verdict Fault) (contents : O → OutputBytes)
+    (old left begun ended new : StorageState) (before after : O)
+    → FindsHeader (facts_of command) (Ok header) old left → AreNear file command header → begun ≡ left → new ≡ ended
+    → EndsAndFlushes (facts_of command) header (run_between contents answer begun ended before after)
+    → AfterHeader (facts_of command) (StopsOrEnds file command) (run_between contents answer old new before after)
+ran-between command file header answer contents old left begun ended new before after finds near same last ends =
+    rw last (
+      Ok header,
       left,
-      (
-        Ok header,
-        left,
-        subst (λ (s : StorageState). FindsHeader (facts_of command) (Ok header) s left) opened finds,
-        inl (record { fault = why; bytes = refl; output = refl }),
-      ),
+      finds,
+      inr (near, subst (λ (s : StorageState). EndsAndFlushes (facts_of command) header (run_between contents answer s ended before after)) same ends),
     )
 
--- or its command ran, over what the header left
-pub ended-on-file : {O : Type 0} (command : Command) (file : FileContent) (header : HeaderRecord) (answer : Result Verdict Fault) (contents : O → OutputBytes)
-    (old left begun new : StorageState) (before after : O)
-    → old ≡ state_over file 0 → FindsHeader (facts_of command) (Ok header) old left → AreNear file command header → begun ≡ left
-    → EndsAndFlushes (facts_of command) header (record { answer = answer; old = begun; new = new; contents = contents; before = before; after = after })
-    → RunsOnFile command file answer contents before after
-ended-on-file command file header answer contents old left begun new before after opened finds near same ends =
-    inr (
-      new,
-      (
-        Ok header,
-        left,
-        subst (λ (s : StorageState). FindsHeader (facts_of command) (Ok header) s left) opened finds,
-        inr (
-          near,
-          subst (λ (s : StorageState). EndsAndFlushes (facts_of command) header (record {
-            answer = answer;
-            old = s;
-            new = new;
-            contents = contents;
-            before = before;
-            after = after;
-          })) same ends,
-        ),
-      ),
-    )
+-- what a run left in the open file of a path is in that once it is closed
+pub closed-file : {O : Type 0} (command : Command) (old opened new left : FileContent) (answer : Result Verdict Fault) (contents : O → OutputBytes)
+    (begun : StorageState) (failures : ℕ) (before after : O)
+    → begun ≡ state_over old 0 → opened ≡ old → new ≡ left
+    → AfterHeader (facts_of command) (StopsOrEnds opened command) (run_between contents answer begun (state_over left failures) before after)
+    → RunsOnFile command old new answer contents before after
+closed-file command old opened new left answer contents begun failures before after is same closed ran =
+    let opening = subst (λ (s : StorageState). AfterHeader (facts_of command) (StopsOrEnds opened command) (run_between contents answer s (state_over left failures) before after)) is ran in
+    let known = subst (λ (f : FileContent). AfterHeader (facts_of command) (StopsOrEnds f command) (run_between contents answer (state_over old 0) (state_over left failures) before after)) same opening in
+    rw closed (inr (failures, known))
 
 -- the command that a line of words asks for ran over the file that its second word names
-pub line-of-words : (words : WordList) (name image : Word) (arguments : WordList) (P : Command → Word → Type 0)
-    → words ≡ name ∷ image ∷ arguments → IfSome (command_by_name name image arguments) (λ command. P command image)
-    → IfSome (command_of words) (λ command. P command (image_name words))
+pub line-of-words : (words : WordList) (name image : Word) (arguments : WordList) (P : Option Command → Word → Type 0)
+    → words ≡ name ∷ image ∷ arguments → P (command_by_name name image arguments) image → P (command_of words) (image_name words)
 line-of-words words name image arguments P same ran = rw same ran
+
+-- words that ask for no command change no file
+pub line-of-none : {O : Type 0} (meant : Option Command) (path : Word) (files : Word → FileContent) (status : ℕ) (contents : O → OutputBytes) (before after : O) (told telling : OutputBytes)
+    → meant ≡ None → RunsWords meant path files files status contents before after told telling
+line-of-none meant path files status contents before after told telling none = rw none refl
 
 kept : (known : OutputBytes) → Keeps known known
 kept None = tt
@@ -85,11 +76,11 @@ two-items (one ∷ two ∷ items) first second enough at next =
     rw (at, next, rest) refl
 
 -- memory ran out for a line's words
-pub line-unread : {O : Type 0} (meant : Option Command) (file : FileContent) (status : ℕ) (contents : O → OutputBytes) (out : O) → status ≡ 1
-    → IfSome meant (λ command. RunsLine command file status contents out out)
-line-unread None file status contents out is = tt
-line-unread (Some command) file status contents out is = record {
-  runs = inl (is, refl);
+pub line-unread : {O : Type 0} (meant : Option Command) (path : Word) (files : Word → FileContent) (status : ℕ) (contents : O → OutputBytes) (out : O) (told telling : OutputBytes)
+    → status ≡ 1 → AppendsPart told telling (fault_line NoMemory) → RunsWords meant path files files status contents out out told telling
+line-unread None path files status contents out told telling is line = refl
+line-unread (Some command) path files status contents out told telling is line = record {
+  runs = inl ((is, line), refl, refl);
   place = placed (facts_of command).place_fault;
   verdict = λ none. omega (arith, is);
 }
@@ -99,18 +90,25 @@ line-unread (Some command) file status contents out is = record {
     placed (Some fault) = (is, kept (contents out))
 
 -- a command ran over a file, and its answer gave the status
-pub line-ended : {O : Type 0} (command : Command) (file : FileContent) (answer : Result Verdict Fault) (status : ℕ) (contents : O → OutputBytes) (before after : O)
-    → RunsOnFile command file answer contents before after
+pub line-ended : {O : Type 0} (command : Command) (old new : FileContent) (answer : Result Verdict Fault) (status : ℕ) (contents : O → OutputBytes) (before after : O) (told telling : OutputBytes) (Silent : Type 0)
+    → RunsOnFile command old new answer contents before after
     → IfSome (facts_of command).place_fault (λ _. IsErr answer × Keeps (contents before) (contents after))
     → ((facts_of command).has_verdict ≡ false → IfOk answer (λ verdict. verdict ≡ Fine))
     → MatchResult answer (λ verdict. status ≡ status_of_verdict verdict) (λ _. status ≡ 1)
-    → RunsLine command file status contents before after
-line-ended command file answer status contents before after ran place fine is = record {
-  runs = inr (answer, ran, is);
+    → MatchResult answer (λ _. Silent) (λ fault. AppendsPart told telling (fault_line fault))
+    → RunsLine command old new status contents before after told telling
+line-ended command old new answer status contents before after told telling Silent ran place fine is line = record {
+  runs = inr (answer, ran, reported answer is line);
   place = placed (facts_of command).place_fault place;
   verdict = λ none. quiet answer (fine none) is;
 }
   where
+    reported : (answer : Result Verdict Fault) → MatchResult answer (λ verdict. status ≡ status_of_verdict verdict) (λ _. status ≡ 1)
+        → MatchResult answer (λ _. Silent) (λ fault. AppendsPart told telling (fault_line fault))
+        → MatchResult answer (λ verdict. status ≡ status_of_verdict verdict) (λ fault. ReportsFault fault status told telling)
+    reported (Ok verdict) is line = is
+    reported (Err fault) is line = (is, line)
+
     failed : (answer : Result Verdict Fault) → IsErr answer
         → MatchResult answer (λ verdict. status ≡ status_of_verdict verdict) (λ _. status ≡ 1) → status ≡ 1
     failed (Ok verdict) err is = absurd (grind (arith, err))

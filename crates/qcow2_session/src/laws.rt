@@ -36,8 +36,8 @@ pub use qcow2_image::laws::{
 };
 
 /// Where an image's bytes are known, a command that loads its header goes by the one that these have by the
-/// grammar, or by their fault, unless memory ran out or a call of the storage failed. One that doesn't load
-/// it to write leaves these bytes.
+/// grammar, or ends in their fault, unless memory ran out or a call of the storage failed. One that doesn't
+/// load it to write leaves these bytes.
 pub fn a_command_goes_by_the_header_of_its_bytes()
     ensures { (command : Command) (found : Result HeaderRecord Fault) (old left : StorageState) →
         FindsHeader (facts_of command) found old left → (facts_of command).cluster_bits ≡ None →

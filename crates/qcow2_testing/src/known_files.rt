@@ -103,41 +103,57 @@ impl ImageFile for KnownFile {
     ghost ends = { λ file offset past. get_or_past (memory_bytes file.image) offset 0 past };
 }
 
-/// Files of which each holds these bytes, and which go that many at a time.
+/// Files in memory that go a few bytes at a time. All paths are names of one file.
 #[derive(Drop)]
-pub struct KnownFiles<'a> {
+pub struct KnownFiles {
     alloc: Global,
-    bytes: &'a [u8],
+    image: MemStorage,
     step: usize,
 }
 
-impl<'a> KnownFiles<'a> {
-    /// Files of which each holds these bytes, as its own, and goes this many at a time.
-    pub fn new(alloc: Global, bytes: &'a [u8], step: usize) -> KnownFiles<'a>
-        ensures { result.bytes.now ≡ bytes.now }
+impl KnownFiles {
+    /// A file of these bytes, which goes this many at a time, under each path.
+    pub fn new(alloc: Global, bytes: Vec<u8>, step: usize) -> KnownFiles
+        ensures { memory_bytes result.image ≡ bytes.items }
     {
-        KnownFiles { alloc, bytes, step }
+        KnownFiles {
+            alloc,
+            image: MemStorage::new(bytes),
+            step,
+        }
+    }
+
+    /// The file's bytes: those that it had when it was closed last.
+    pub fn bytes(&self) -> &[u8]
+        ensures { result.now ≡ memory_bytes self.now.image }
+    {
+        self.image.bytes()
     }
 }
 
-impl ImageFiles for KnownFiles<'_> {
+impl ImageFiles for KnownFiles {
     ghost use Rattle.qcow2_testing.specs.KnownFiles.{content_of};
 
     type Image = KnownFile;
 
-    ghost file_at = { λ files _. content_of files.bytes.now };
+    ghost file_at = { λ files _. content_of (memory_bytes files.image) };
 
-    fn open_image(&self, path: &str, writable: bool) -> Result<FileStorage<KnownFile>, Fault> {
+    fn open_image(&mut self, path: &str, writable: bool) -> Result<FileStorage<KnownFile>, Fault> {
         let _ = path;
         let _ = writable;
-        match Vec::from_slice(self.alloc, self.bytes) {
+        match Vec::from_slice(self.alloc, self.image.bytes()) {
             Ok(bytes) => Ok(FileStorage::new(KnownFile::new(bytes, self.step))),
             Err(_) => Err(Fault::Storage),
         }
     }
 
+    fn close_image(&mut self, path: &str, file: KnownFile) {
+        let _ = path;
+        self.image = file.image;
+    }
+
     fn image_len(&self, path: &str) -> Result<Option<u64>, Fault> {
         let _ = path;
-        Ok(Some(self.bytes.len() as u64))
+        Ok(Some(self.image.bytes().len() as u64))
     }
 }

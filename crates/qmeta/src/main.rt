@@ -46,13 +46,13 @@ fn run(rt: &HostRuntime) -> Result<u8, Fault> {
 // Runs words, and says at a terminal how far it is with these tables of the image.
 fn run_watched(rt: &HostRuntime, words: &[String], tables: &[WatchedTable]) -> Result<u8, Fault> {
     let progress = Progress::new(rt.alloc(), rt, rt.stderr(), tables);
-    let files = WatchedFiles::new(rt, &progress);
+    let mut files = WatchedFiles::new(rt, &progress);
     let out = WatchedOutput::new(rt.stdout(), &progress, rt.stdout().is_terminal());
     let mut err = WatchedOutput::new(rt.stderr(), &progress, true);
     let Ok(mut out) = BufWriter::with_capacity(rt.alloc(), OUTPUT_BUFFER, out) else {
         return Err(Fault::NoMemory);
     };
-    let status = qcow2_session::run_words(&files, words, &mut out, &mut err);
+    let status = qcow2_session::run_words(&mut files, words, &mut out, &mut err);
     progress.wipe();
     Ok(status)
 }

@@ -1,5 +1,5 @@
 -- What is known of a file that an image lies in, and what do reads and writes of it change?
-use Rattle.std.specs.Prelude.{◌≡◌, ℕ, ◌<◌, ◌≤◌, Bool, false, IsTrue, List, length, take, Result, IfOk}
+use Rattle.std.specs.Prelude.{◌≡◌, ℕ, ◌+◌, ◌<◌, ◌≤◌, Bool, false, IsTrue, List, length, max, take, Result, Ok, Err, IfOk}
 use Rattle.qcow2_base.specs.Storage.{Holds, Image, SameOutside}
 
 -- what is known of a file: whether its bytes are known, these bytes, 0 past its end, and how many there are
@@ -24,12 +24,18 @@ pub record ReadsSome {E : Type 0} (answer : Result ℕ E) (offset : ℕ) (buffer
   pub end : IfOk answer (λ count. count ≡ 0 → 0 < length buffer → OnFile old (old.len ≤ offset))
   pub unchanged : new ≡ old
 
--- a write of these bytes from an offset on that ended in this answer: it took the first of them, and no byte outside their
--- range changes
+-- how many bytes a write of that many has at most changed that ended in this answer
+abbrev pub reach : {E : Type 0} → Result ℕ E → ℕ → ℕ
+reach (Ok count) len = count
+reach (Err _) len = len
+
+-- a write of these bytes from an offset on that ended in this answer: it took the first of them, and no other byte changes.
+-- After a failure any bytes may be where all of them were to be. The file ends after what was written, or where it did
 pub record WritesSome {E : Type 0} (answer : Result ℕ E) (offset : ℕ) (bytes : List ℕ) (old new : FileContent) : Type 0 where
   pub count : IfOk answer (λ count. count ≤ length bytes)
   pub written : IfOk answer (λ count. OnFile old (Holds new.byte_at offset (take count bytes)))
-  pub others : OnFile old (SameOutside offset (length bytes) old.byte_at new.byte_at)
+  pub others : OnFile old (SameOutside offset (reach answer (length bytes)) old.byte_at new.byte_at)
+  pub len : IfOk answer (λ count. 0 < count → OnFile old (new.len ≡ max old.len (offset + count)))
   pub tells : new.tells ≡ old.tells
 
 -- a question for the file's length that ended in this answer

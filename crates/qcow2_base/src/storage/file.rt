@@ -30,6 +30,13 @@ impl<F> FileStorage<F> {
     {
         FileStorage { file, failures: 0 }
     }
+
+    /// The open file.
+    pub fn into_file(self) -> F
+        ensures { result ≡ file_of self }
+    {
+        self.file
+    }
 }
 
 impl<F: Read + Write + Seek + OpenFile + Drop> FileStorage<F> {

@@ -24,9 +24,9 @@ pub trait ImageFile {
     fn read_at(&mut self, buf: &mut [u8], offset: u64) -> io::Result<usize>
         ensures { ReadsSome result offset buf.new (content self.old) (content self.new) };
 
-    /// Replaces the bytes from `offset` on by the first of these, and returns how many it wrote. A write past
-    /// the end lengthens the file, with zeros between. After a failure any bytes may be in the range of all
-    /// of them.
+    /// Replaces the bytes from `offset` on by the first of these, and returns how many it wrote. No other
+    /// byte changes. A write past the end lengthens the file, with zeros between. After a failure any bytes
+    /// may be in the range of all of them.
     fn write_at(&mut self, buf: &[u8], offset: u64) -> io::Result<usize>
         ensures { WritesSome result offset buf.now (content self.old) (content self.new) };
 

@@ -4,7 +4,7 @@ use super::{LIMIT, READS as SMALL_READS, check_bytes, memory, read, write};
 use qcow2_base::{MemStorage, Storage, StorageFault};
 use qcow2_buffered::BufferedStorage;
 use qcow2_testing::{FailingStorage, StorageCall, each, filled_image, rows, same};
-use std::alloc::Global;
+use std::alloc::{AllocError, Global};
 use std::test::Fail;
 
 type Buffered = BufferedStorage<FailingStorage<MemStorage>>;
@@ -14,7 +14,7 @@ type Buffered = BufferedStorage<FailingStorage<MemStorage>>;
 fn buffered(alloc: Global, cluster_size: usize, plan: Option<u64>) -> Result<Buffered, Fail> {
     let mut inner = FailingStorage::new(alloc, filled_image(alloc, 20000)?);
     inner.plan = plan;
-    Ok(BufferedStorage::new(alloc, inner, cluster_size)?)
+    Ok(BufferedStorage::new(alloc, inner, cluster_size).map_err(|_| AllocError)?)
 }
 
 // Where a read begins, and how many bytes it has.
@@ -77,12 +77,13 @@ fn pages_are_read_once_while_they_are_kept(rt: HostRuntime) -> Result<(), Fail> 
 #[test]
 fn a_read_through_pages_gives_the_bytes(rt: HostRuntime) -> Result<(), Fail> {
     let inner = memory(rt.alloc(), &[1, 2, 3, 4, 5])?;
-    let mut storage = BufferedStorage::new(rt.alloc(), inner, 512)?;
+    let mut storage = BufferedStorage::new(rt.alloc(), inner, 512).map_err(|_| AllocError)?;
     same((storage.mem_align(), storage.req_align()), (1, 1), "new")?;
     for (offset, bytes) in SMALL_READS {
         check_bytes(rt.alloc(), &mut storage, *offset, bytes)?;
     }
-    Ok(())
+    write(&mut storage, &[9], 1)?;
+    same(storage.into_inner().bytes(), &[1, 9, 3, 4, 5], "below")
 }
 
 #[test]

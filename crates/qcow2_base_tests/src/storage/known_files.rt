@@ -73,7 +73,18 @@ fn a_write_that_a_file_has_no_room_for_is_counted(rt: HostRuntime) -> Result<(),
 
 #[test]
 fn files_that_are_known_are_opened_by_path(rt: HostRuntime) -> Result<(), Fail> {
-    let files = KnownFiles::new(rt.alloc(), &[1, 2, 3, 4, 5], 2);
+    let bytes = Vec::from_slice(rt.alloc(), &[1, 2, 3, 4, 5])?;
+    let mut files = KnownFiles::new(rt.alloc(), bytes, 2);
     same(files.image_len("any"), Ok(Some(5)), "length")?;
-    check_read(rt.alloc(), &mut files.open_image("any", false)?)
+    let mut image = files.open_image("any", false)?;
+    check_read(rt.alloc(), &mut image)?;
+    write(&mut image, &[7, 8], 4)?;
+    same(files.bytes(), &[1, 2, 3, 4, 5], "while the file is open")?;
+    files.close_image("any", image.into_file());
+    same(files.bytes(), &[1, 2, 3, 4, 7, 8], "once it is closed")?;
+    same(
+        files.image_len("any"),
+        Ok(Some(6)),
+        "length once it is closed",
+    )
 }

@@ -5,15 +5,19 @@ use Rattle.qcow2_metadata.specs.Header.{HeaderRecord}
 use Rattle.qcow2_session.specs.Commands.Printing.{Run}
 use Rattle.qcow2_session.specs.declared.commands.verdict.Verdict.{Verdict}
 
--- the facts of a command: whether it may change its image, whether it loads the header as one who writes to the image, whether it
--- may print before a fault other than that of a failed storage, and whether its runs have verdicts, else all is fine unless they
--- fail; the cluster bits that its words say, where it reads no header; why the table that its words name can lie in no image; and how a run of it ends with a header: what it
--- printed, its verdict or why it was refused, and what it changed
+-- the facts of a command
 pub record CommandFacts : Type 1 where
+  -- whether it may change its image
   pub changes_image : Bool
+  -- whether it loads the header as one who writes to the image
   pub loads_to_write : Bool
+  -- whether it may print before a fault other than that of a failed storage
   pub prints_before_faults : Bool
+  -- whether its runs have verdicts; else all is fine unless they fail
   pub has_verdict : Bool
+  -- the cluster bits that its words say, where it reads no header
   pub cluster_bits : Option ℕ
+  -- why the table that its words name can lie in no image
   pub place_fault : Option Fault
+  -- how a run of it ends with a header: what it printed, its verdict or why it was refused, and what it changed
   pub Ends : {O : Type 0} → HeaderRecord → Run Verdict O → Type 0

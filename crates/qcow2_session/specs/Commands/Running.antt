@@ -7,7 +7,7 @@ use Rattle.qcow2_base.specs.declared.fault.Fault.TheVariants.{NoMemory, Storage}
 use Rattle.qcow2_metadata.specs.Header.{HeaderRecord, geometry, geometry_of}
 use Rattle.qcow2_metadata.specs.Header.Open.{Loads}
 use Rattle.qcow2_session.specs.Commands.Facts.{CommandFacts}
-use Rattle.qcow2_session.specs.Commands.Printing.{Run}
+use Rattle.qcow2_session.specs.Commands.Printing.{PrintsLast, Run}
 use Rattle.qcow2_session.specs.declared.commands.verdict.Verdict.{Verdict}
 
 -- a header without an external data file was made for these cluster bits, unless memory ran out
@@ -39,10 +39,17 @@ AfterHeader facts Follows run = (found : Result HeaderRecord Fault) × (left : S
 abbrev pub Runs : {O : Type 0} → CommandFacts → Run Verdict O → Type 0
 Runs facts run = AfterHeader facts facts.Ends run
 
+-- a run of a command with its header: it ends as it should. Only a command that may change its image changes a byte, and only
+-- one that may print before faults prints lines before its own
+pub record EndsRun {O : Type 0} (facts : CommandFacts) (header : HeaderRecord) (run : Run Verdict O) : Type 0 where
+  pub ends : facts.Ends header run
+  pub unchanged : facts.changes_image ≡ false → run.new.byte_at ≡ run.old.byte_at
+  pub at_once : facts.prints_before_faults ≡ false → PrintsLast run
+
 -- a run of a command with its header, and then the flush of its output: the answer is that of the run, its verdict or its
 -- fault. Only after a run without a fault it may be the storage fault, of a failed flush. The flush changes nothing of what was
 -- printed
 abbrev pub EndsAndFlushes : {O : Type 0} → CommandFacts → HeaderRecord → Run Verdict O → Type 0
 EndsAndFlushes {O = O} facts header run = (ran : Result Verdict Fault) × (printed : O)
-    × facts.Ends header (record run { answer = ran; after = printed }) × Keeps (run.contents printed) (run.contents run.after)
+    × EndsRun facts header (record run { answer = ran; after = printed }) × Keeps (run.contents printed) (run.contents run.after)
     × ((run.answer ≡ ran) ⊎ (IsOk ran × (run.answer ≡ Err Storage)))

@@ -1,15 +1,16 @@
 //! Running a command over its image, and the whole program.
 
-ghost use Rattle.std.specs.Prelude.{◌≡◌, ◌≢◌, ◌≤◌, ◌↔◌, None, Ok, Err, false, map, string_bytes, IsErr, IfErr, IfOk, IfSome, OnErr, OnOk, MatchResult};
+ghost use Rattle.std.specs.Prelude.{◌≡◌, ◌≤◌, ◌↔◌, None, Ok, Err, false, map, string_bytes, IsErr, IfOk, IfSome, OnErr, OnOk, MatchResult};
 ghost use Rattle.std.specs.Io.KnownBytes.{Keeps};
+ghost use Rattle.qcow2_base.specs.Storage.File.{file_state};
 ghost use Rattle.qcow2_base.specs.declared.fault.Fault.TheVariants.{Storage as StorageFailed};
 ghost use Rattle.qcow2_session.specs.Commands.{AskForNothing, command_by_name, command_of, facts_of, image_name};
 ghost use Rattle.qcow2_session.specs.Commands.Explain.{PrintsExplained, explained_text};
 ghost use Rattle.qcow2_session.specs.Commands.Help.{PrintsAsked, asked_text, text_of};
 ghost use Rattle.qcow2_session.specs.Commands.Printing.{AppendsPart, PrintsLast, run_over};
 ghost use Rattle.qcow2_session.specs.Commands.Report.{Reports, fault_line};
-ghost use Rattle.qcow2_session.specs.Commands.RunningOnFiles.{ComparesWithFile, RunsLine, RunsOnFile};
-ghost use Rattle.qcow2_session.specs.Commands.Running.{EndsAndFlushes, FindsHeader, IsHeaderFor, Runs};
+ghost use Rattle.qcow2_session.specs.Commands.RunningOnFiles.{ComparesWithFile, RunsOnFile, RunsWords, StopsOrEnds};
+ghost use Rattle.qcow2_session.specs.Commands.Running.{AfterHeader, EndsAndFlushes, FindsHeader, IsHeaderFor, Runs};
 ghost use Rattle.qcow2_session.specs.Commands.Verdict.{fine_unless_failed, status_of_verdict};
 ghost use Rattle.qcow2_session.specs.declared.commands.verdict.Verdict.TheVariants.{Fine};
 
@@ -31,7 +32,7 @@ use super::report::{refuse_words, report_fault};
 use super::tables::print_tables;
 use super::verdict::Verdict;
 use crate::lines::print;
-use qcow2_base::{Fault, ImageFiles, Storage};
+use qcow2_base::{Fault, FileStorage, ImageFiles, Storage};
 use qcow2_buffered::BufferedStorage;
 use qcow2_metadata::Header;
 use std::alloc::Global;
@@ -47,10 +48,10 @@ use std::rt::Files;
 /// print a text there, and open no image; `explain` of an image goes on with lines on where in it the fault
 /// is. A fault is the line `qmeta: fault N` on `err`, wrong words are the usage line there. `out` is flushed
 /// after a command, `err` after a line on it. A failed write to `out` is the storage fault; one to `err`
-/// changes nothing.
+/// changes nothing. No file changes but by a command, and that in the file of its image.
 #[tactic(auto, using(crate::proofs::HelpLemmas::asked_is_no_command))]
 pub fn run_words<R: Files + ImageFiles + AllocGlobal, O: Write, E: Write>(
-    rt: &R,
+    rt: &mut R,
     words: &[String],
     out: &mut O,
     err: &mut E,
@@ -63,9 +64,9 @@ pub fn run_words<R: Files + ImageFiles + AllocGlobal, O: Write, E: Write>(
         × IfSome (explained_text (map string_bytes words.now)) (λ text.
         PrintsExplained result text (O.contents out.old) (O.contents out.new)) }
     ensures reports { Reports result E.contents err.old err.new }
-    ensures command { IfSome (command_of (map string_bytes words.now)) (λ command.
-        RunsLine command (R.file_at rt.now (image_name (map string_bytes words.now))) result
-        O.contents out.old out.new) }
+    ensures command { RunsWords (command_of (map string_bytes words.now))
+        (image_name (map string_bytes words.now)) (R.file_at rt.old) (R.file_at rt.new) result
+        O.contents out.old out.new (E.contents err.old) (E.contents err.new) }
 {
     match HelpText::parse(words) {
         Some(text) => print_asked(text, out, err),
@@ -76,7 +77,7 @@ pub fn run_words<R: Files + ImageFiles + AllocGlobal, O: Write, E: Write>(
 // Runs words that ask for no text.
 #[tactic(auto, using(crate::proofs::ExplainLemmas::explained_is_no_command))]
 fn run_further<R: Files + ImageFiles + AllocGlobal, O: Write, E: Write>(
-    rt: &R,
+    rt: &mut R,
     words: &[String],
     out: &mut O,
     err: &mut E,
@@ -87,12 +88,12 @@ fn run_further<R: Files + ImageFiles + AllocGlobal, O: Write, E: Write>(
     ensures explained { IfSome (explained_text (map string_bytes words.now)) (λ text.
         PrintsExplained result text (O.contents out.old) (O.contents out.new)) }
     ensures reports { Reports result E.contents err.old err.new }
-    ensures command { IfSome (command_of (map string_bytes words.now)) (λ command.
-        RunsLine command (R.file_at rt.now (image_name (map string_bytes words.now))) result
-        O.contents out.old out.new) }
+    ensures command { RunsWords (command_of (map string_bytes words.now))
+        (image_name (map string_bytes words.now)) (R.file_at rt.old) (R.file_at rt.new) result
+        O.contents out.old out.new (E.contents err.old) (E.contents err.new) }
 {
     match Question::parse(words) {
-        Some(question) => explain(rt, &question, out, err),
+        Some(question) => explain(&*rt, &question, out, err),
         None => run_command(rt, words, out, err),
     }
 }
@@ -133,7 +134,7 @@ fn print_asked<O: Write, E: Write>(text: HelpText, out: &mut O, err: &mut E) -> 
 
 // Runs the command that words ask for, and returns the status: 2 where they ask for none.
 fn run_command<R: Files + ImageFiles + AllocGlobal, O: Write, E: Write>(
-    rt: &R,
+    rt: &mut R,
     words: &[String],
     out: &mut O,
     err: &mut E,
@@ -142,9 +143,9 @@ fn run_command<R: Files + ImageFiles + AllocGlobal, O: Write, E: Write>(
     ensures wrong_words { (result ≡ 2) ↔ (command_of (map string_bytes words.now) ≡ None) }
     ensures no_lines { result ≡ 2 → out.new ≡ out.old }
     ensures reports { Reports result E.contents err.old err.new }
-    ensures command { IfSome (command_of (map string_bytes words.now)) (λ command.
-        RunsLine command (R.file_at rt.now (image_name (map string_bytes words.now))) result
-        O.contents out.old out.new) }
+    ensures command { RunsWords (command_of (map string_bytes words.now))
+        (image_name (map string_bytes words.now)) (R.file_at rt.old) (R.file_at rt.new) result
+        O.contents out.old out.new (E.contents err.old) (E.contents err.new) }
 {
     let [name, image, arguments @ ..] = words else {
         return refuse_words(err);
@@ -154,7 +155,7 @@ fn run_command<R: Files + ImageFiles + AllocGlobal, O: Write, E: Write>(
 
 // Runs the command that a name, the image's name and the words after it ask for, and returns the status.
 fn run_named<R: ImageFiles + AllocGlobal, O: Write, E: Write>(
-    rt: &R,
+    rt: &mut R,
     name: &str,
     image: &str,
     arguments: &[String],
@@ -166,11 +167,13 @@ fn run_named<R: ImageFiles + AllocGlobal, O: Write, E: Write>(
         ↔ (command_by_name name.now image.now (map string_bytes arguments.now) ≡ None) }
     ensures no_lines { result ≡ 2 → out.new ≡ out.old }
     ensures reports { Reports result E.contents err.old err.new }
-    ensures command { IfSome (command_by_name name.now image.now (map string_bytes arguments.now)) (λ command.
-        RunsLine command (R.file_at rt.now image.now) result O.contents out.old out.new) }
+    ensures command { RunsWords (command_by_name name.now image.now (map string_bytes arguments.now))
+        image.now (R.file_at rt.old) (R.file_at rt.new) result
+        O.contents out.old out.new (E.contents err.old) (E.contents err.new) }
 {
-    match Command::parse(rt.alloc(), name, image, arguments) {
-        Some(Ok(command)) => status_of(run_on_file(rt.alloc(), rt, image, &command, out), err),
+    let alloc = rt.alloc();
+    match Command::parse(alloc, name, image, arguments) {
+        Some(Ok(command)) => status_of(run_on_file(alloc, rt, image, &command, out), err),
         Some(Err(error)) => report_fault(Fault::from(error), err),
         None => refuse_words(err),
     }
@@ -188,35 +191,66 @@ fn status_of<E: Write>(ran: Result<Verdict, Fault>, err: &mut E) -> u8
     }
 }
 
-/// Opens the image of a path, for writing where the command may change it, and runs the command over it. What
-/// it prints is flushed, also before a fault. One that reads all tables reads them in pages.
+/// Opens the image of a path, for writing where the command may change it, runs the command over it, and
+/// closes it. What it prints is flushed, also before a fault. One that reads all tables reads them in pages.
 ///
-/// Returns 34 where the file can't be opened. `apply` returns 32 and the position of the first edit that maps
-/// a cluster past the end of the image's file, where that is a regular file, or that doesn't fit the disk.
-/// Else it returns what `run` does, and 34 where the flush fails.
+/// Returns 34 where the file can't be opened, or for `apply` its length can't be had; 35 where memory runs
+/// out for the pages. `apply` returns 32 and the position of the first edit that maps a cluster past the end
+/// of the image's file, where that is a regular file, or that doesn't fit the disk. After these the file is
+/// as it was, and nothing is printed. Else it returns what `run` does, and 34 where the flush fails.
 pub fn run_on_file<R: ImageFiles, O: Write>(
     alloc: Global,
-    files: &R,
+    files: &mut R,
     path: &str,
     command: &Command,
     out: &mut O,
 ) -> Result<Verdict, Fault>
-    ensures runs { RunsOnFile command.now (R.file_at files.now path.now) result
+    ensures runs { RunsOnFile command.now (R.file_at files.old path.now) (R.file_at files.new path.now) result
         O.contents out.old out.new }
     ensures place { IfSome (facts_of command.now).place_fault (λ fault.
         IsErr result × Keeps (O.contents out.old) (O.contents out.new)) }
-    ensures before_any_line { (facts_of command.now).prints_before_faults ≡ false → IfErr result (λ fault.
-        fault ≢ StorageFailed → Keeps (O.contents out.old) (O.contents out.new)) }
     ensures verdict { (facts_of command.now).has_verdict ≡ false → IfOk result (λ verdict. verdict ≡ Fine) }
 {
-    let mut file = files.open_image(path, command.changes_image())?;
-    let header = find_header(alloc, &mut file, command)?;
-    refuse_far_clusters(files, path, &header, command)?;
-    if !command.reads_all_tables() {
-        return run_and_flush(alloc, &mut file, header, command, out);
+    let image = files.open_image(path, command.changes_image())?;
+    let (image, ran) = run_in_file(alloc, files, path, image, command, out);
+    files.close_image(path, image.into_file());
+    ran
+}
+
+// Runs a command over an image in the open file of a path, and returns the file too.
+fn run_in_file<R: ImageFiles, O: Write>(
+    alloc: Global,
+    files: &R,
+    path: &str,
+    mut image: FileStorage<R::Image>,
+    command: &Command,
+    out: &mut O,
+) -> (FileStorage<R::Image>, Result<Verdict, Fault>)
+    ensures runs { AfterHeader (facts_of command.now) (StopsOrEnds (R.file_at files.now path.now) command.now)
+        (run_over (file_state R.Image.content) O.contents result.1 image result.0 out.old out.new) }
+    ensures place { IfSome (facts_of command.now).place_fault (λ fault.
+        IsErr result.1 × Keeps (O.contents out.old) (O.contents out.new)) }
+    ensures verdict { (facts_of command.now).has_verdict ≡ false →
+        IfOk result.1 (λ verdict. verdict ≡ Fine) }
+{
+    let header = match find_header(alloc, &mut image, command) {
+        Ok(header) => header,
+        Err(fault) => return (image, Err(fault)),
+    };
+    if let Err(fault) = refuse_far_clusters(files, path, &header, command) {
+        return (image, Err(fault));
     }
-    let mut image = BufferedStorage::new(alloc, file, header.cluster_size())?;
-    run_and_flush(alloc, &mut image, header, command, out)
+    if !command.reads_all_tables() {
+        let ran = run_and_flush(alloc, &mut image, header, command, out);
+        return (image, ran);
+    }
+    match BufferedStorage::new(alloc, image, header.cluster_size()) {
+        Ok(mut pages) => {
+            let ran = run_and_flush(alloc, &mut pages, header, command, out);
+            (pages.into_inner(), ran)
+        }
+        Err(image) => (image, Err(Fault::NoMemory)),
+    }
 }
 
 // Refuses edits of a disk that map clusters past the end of the image's file, by 32 and the position of the
@@ -257,8 +291,6 @@ fn run_and_flush<S: Storage, O: Write>(
         (run_over S.state O.contents result image.old image.new out.old out.new) }
     ensures place { IfSome (facts_of command.now).place_fault (λ fault.
         IsErr result × Keeps (O.contents out.old) (O.contents out.new)) }
-    ensures before_any_line { (facts_of command.now).prints_before_faults ≡ false → IfErr result (λ fault.
-        fault ≢ StorageFailed → Keeps (O.contents out.old) (O.contents out.new)) }
     ensures verdict { (facts_of command.now).has_verdict ≡ false → IfOk result (λ verdict. verdict ≡ Fine) }
 {
     let ran = run_with(alloc, image, header, command, out);

@@ -172,9 +172,9 @@ const MISSING: &[(u64, &str, &str)] = rows! {
 
 #[test]
 fn a_file_that_is_no_image_is_told_by_the_system_s_word(rt: HostRuntime) -> Result<(), Fail> {
-    let files = FaultyFiles::new(&rt);
+    let mut files = FaultyFiles::new(&rt);
     for (fault, path, lines) in MISSING {
-        check_answer(&files, *path, *fault, *lines)?;
+        check_answer(&mut files, *path, *fault, *lines)?;
     }
     Ok(())
 }
@@ -186,16 +186,21 @@ fn the_text_of_a_fault_comes_before_its_place(rt: HostRuntime) -> Result<(), Fai
     let file = sample_file(&rt, "explain", before)?;
     let mut files = FaultyFiles::new(&rt);
     let path = file.path.as_str();
-    check_answer(&files, path, 3, "in IMAGE: byte 20: cluster_bits is 30\n")?;
     check_answer(
-        &files,
+        &mut files,
+        path,
+        3,
+        "in IMAGE: byte 20: cluster_bits is 30\n",
+    )?;
+    check_answer(
+        &mut files,
         path,
         34,
         "in IMAGE: the file can be opened, and written to\n",
     )?;
     files.read_only = true;
     check_answer(
-        &files,
+        &mut files,
         path,
         34,
         "in IMAGE: the file can't be written to: permission denied\n",
@@ -206,7 +211,7 @@ fn the_text_of_a_fault_comes_before_its_place(rt: HostRuntime) -> Result<(), Fai
 
 // Asks where a fault is in the file at a path, and fails unless its text is printed and then these lines.
 fn check_answer(
-    files: &FaultyFiles<'_, HostRuntime>,
+    files: &mut FaultyFiles<'_, HostRuntime>,
     path: &str,
     fault: u64,
     lines: &str,
@@ -239,10 +244,10 @@ const FAILING: &[(Failures, Ended<'static>)] = rows! {
 #[test]
 fn a_failing_output_keeps_a_beginning_of_the_text(rt: HostRuntime) -> Result<(), Fail> {
     let file = sample_file(&rt, "explain-failing", &[(16, 30)])?;
-    let files = FaultyFiles::new(&rt);
+    let mut files = FaultyFiles::new(&rt);
     for (failures, ended) in FAILING {
         check_line(
-            &files,
+            &mut files,
             file.path.as_str(),
             "explain 3 IMAGE",
             *failures,

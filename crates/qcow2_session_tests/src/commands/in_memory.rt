@@ -197,15 +197,16 @@ fn a_command_runs_over_the_known_file_of_a_path(rt: HostRuntime) -> Result<(), F
 
 fn check_on_file(alloc: Global, row: Row) -> Result<(), Fail> {
     let image = sample_image(alloc, 9, row.before)?;
-    let files = KnownFiles::new(alloc, image.bytes(), STEP);
+    let mut files = KnownFiles::new(alloc, Vec::from_slice(alloc, image.bytes())?, STEP);
     let mut out = FailingOutput::new(alloc, Failure::Never);
     let answer = match command_of(alloc, row.line)? {
-        Some(Ok(command)) => Some(run_on_file(alloc, &files, "IMAGE", &command, &mut out)),
+        Some(Ok(command)) => Some(run_on_file(alloc, &mut files, "IMAGE", &command, &mut out)),
         Some(Err(fault)) => Some(Err(fault)),
         None => None,
     };
     let found = (answer, std::str::from_utf8(out.flushed())?);
-    same(found, (row.answer, row.printed), row.line)
+    same(found, (row.answer, row.printed), row.line)?;
+    check_sample(alloc, files.bytes(), (9, row.after), row.line)
 }
 
 // The command of a line, if it is one.

@@ -43,7 +43,7 @@ pub(crate) const NO_FAILURES: Failures = (Failure::Never, Failure::Never);
 
 // The status of a run of a line over outputs that fail there, and these outputs then.
 pub(crate) fn run_line(
-    files: &FaultyFiles<'_, HostRuntime>,
+    files: &mut FaultyFiles<'_, HostRuntime>,
     image: &str,
     line: &str,
     (out, err): Failures,
@@ -71,7 +71,7 @@ pub(crate) fn words_of(alloc: Global, line: &str, image: &str) -> Result<Vec<Str
 
 // Runs a line, and fails unless it ends so.
 pub(crate) fn check_line(
-    files: &FaultyFiles<'_, HostRuntime>,
+    files: &mut FaultyFiles<'_, HostRuntime>,
     image: &str,
     line: &str,
     failures: Failures,

@@ -250,8 +250,14 @@ fn run_of<'a>(line: &'a str, ended: Ended<'a>) -> Run<'a> {
 pub(crate) fn check_run(rt: &HostRuntime, name: &str, run: &Run<'_>) -> Result<(), Fail> {
     let Run { line, ended, .. } = *run;
     let file = sample_file(rt, name, run.before)?;
-    let files = FaultyFiles::new(rt);
-    check_line(&files, file.path.as_str(), line, (run.out, run.err), ended)?;
+    let mut files = FaultyFiles::new(rt);
+    check_line(
+        &mut files,
+        file.path.as_str(),
+        line,
+        (run.out, run.err),
+        ended,
+    )?;
     same(files.opens(), opens_of(line, ended), line)?;
     let found = fs::read(rt, file.path.as_str())?;
     check_sample(rt.alloc(), &found, (9, run.after), line)
@@ -353,9 +359,9 @@ const MAPPED: &str = "freed 5 1\ngained 6\n";
 #[test]
 fn what_an_edit_maps_is_what_the_offset_reads_as(rt: HostRuntime) -> Result<(), Fail> {
     let file = sample_file(&rt, "maps", &[(32, 2), (520, COPIED + 0x600)])?;
-    let files = FaultyFiles::new(&rt);
+    let mut files = FaultyFiles::new(&rt);
     for (line, expected) in MAPS {
-        check_line(&files, file.path.as_str(), line, NO_FAILURES, *expected)?;
+        check_line(&mut files, file.path.as_str(), line, NO_FAILURES, *expected)?;
     }
     Ok(())
 }
@@ -408,7 +414,13 @@ fn check_failed_calls(rt: &HostRuntime, row: &Calls<'_>) -> Result<(), Fail> {
         } else {
             Done(row.printed)
         };
-        check_line(&files, file.path.as_str(), row.line, NO_FAILURES, expected)?;
+        check_line(
+            &mut files,
+            file.path.as_str(),
+            row.line,
+            NO_FAILURES,
+            expected,
+        )?;
     }
     Ok(())
 }
@@ -420,7 +432,7 @@ fn a_file_that_may_not_be_written_is_not_edited(rt: HostRuntime) -> Result<(), F
     let mut files = FaultyFiles::new(&rt);
     files.read_only = true;
     let line = "edit IMAGE 0 zero:3";
-    check_line(&files, file.path.as_str(), line, NO_FAILURES, NO_FILE)?;
+    check_line(&mut files, file.path.as_str(), line, NO_FAILURES, NO_FILE)?;
     same(files.opens(), opens_of(line, NO_FILE), "opens")
 }
 
@@ -435,8 +447,14 @@ fn check_name<'a>(rt: &'a HostRuntime, name: &'a str, path: &'a str) -> Result<(
     let mut files = FaultyFiles::new(rt);
     files.alias = Some((name, path));
     let (data, freed) = (Done(DATA_LINE), Done("freed 5 1\n"));
-    check_line(&files, name, "at IMAGE 1543", NO_FAILURES, data)?;
-    check_line(&files, name, "edit IMAGE 0 discard:3", NO_FAILURES, freed)
+    check_line(&mut files, name, "at IMAGE 1543", NO_FAILURES, data)?;
+    check_line(
+        &mut files,
+        name,
+        "edit IMAGE 0 discard:3",
+        NO_FAILURES,
+        freed,
+    )
 }
 
 #[test]

@@ -1,5 +1,4 @@
 use Rattle.std.proofs.Common.{◌≡◌, IsTrue, Ok, subst, rules}
-use Rattle.qcow2_check.proofs.FindingsLemmas.{reads_twice}
 use Rattle.qcow2_check.specs.Counters.{placed_reftable}
 use Rattle.qcow2_apply.proofs.plan.read_tables.Goals as goal
 

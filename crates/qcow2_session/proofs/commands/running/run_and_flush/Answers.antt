@@ -7,7 +7,11 @@ pub returns-clause-ends : goal.returns-clause-ends
 returns-clause-ends g c = (
   c.run_with-ran.result,
   _,
-  c.run_with-ran.ensures.ends,
+  record {
+    ends = c.run_with-ran.ensures.ends;
+    unchanged = c.run_with-ran.ensures.unchanged;
+    at_once = c.run_with-ran.ensures.at_once;
+  },
   c.flush.ensures.bytes,
   answer-flushed c.run_with-ran.result _ c.flush.result c.after_flush.ensures.own c.after_flush.ensures.flush,
 )
