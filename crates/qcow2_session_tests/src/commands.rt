@@ -6,6 +6,7 @@ pub(crate) mod check_json;
 mod check_repair;
 mod explain;
 pub(crate) mod in_memory;
+mod known_host;
 pub(crate) mod run;
 pub(crate) mod whole_images;
 

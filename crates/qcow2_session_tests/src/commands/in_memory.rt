@@ -1,12 +1,13 @@
 //! Commands over an image in memory, by the words that ask for them.
 
+use super::known_host::KnownHost;
 use super::run::words_of;
 use super::whole_images::INFO;
 use crate::failing_output::{FailingOutput, Failure};
 use crate::sample_image::{COPIED, Numbers, check_sample, counted, sample_image};
 use qcow2_base::{Fault, FileStorage, Storage};
 use qcow2_calls::{parse_command, run, run_on_file};
-use qcow2_session::{Command, Verdict};
+use qcow2_session::{Command, Verdict, run_words};
 use qcow2_testing::{KnownFile, KnownFiles, each, rows, same};
 use std::alloc::Global;
 use std::test::Fail;
@@ -207,6 +208,47 @@ fn check_on_file(alloc: Global, row: Row) -> Result<(), Fail> {
     let found = (answer, std::str::from_utf8(out.flushed())?);
     same(found, (row.answer, row.printed), row.line)?;
     check_sample(alloc, files.bytes(), (9, row.after), row.line)
+}
+
+#[test]
+fn a_line_does_to_the_known_file_of_a_path_what_it_says(rt: HostRuntime) -> Result<(), Fail> {
+    each(rt.alloc(), ROWS, check_words)
+}
+
+fn check_words(alloc: Global, row: Row) -> Result<(), Fail> {
+    let image = sample_image(alloc, 9, row.before)?;
+    let mut host = KnownHost::new(alloc, Vec::from_slice(alloc, image.bytes())?, STEP);
+    let words = words_of(alloc, row.line, "IMAGE")?;
+    let mut out = FailingOutput::new(alloc, Failure::Never);
+    let mut err = FailingOutput::new(alloc, Failure::Never);
+    let status = run_words(&mut host, words.as_slice(), &mut out, &mut err);
+    let told = reported(alloc, row.answer)?;
+    let found = (
+        status,
+        std::str::from_utf8(out.flushed())?,
+        std::str::from_utf8(err.flushed())?,
+    );
+    let expected = (status_of(row.answer), row.printed, told.as_str());
+    same(found, expected, row.line)?;
+    check_sample(alloc, host.images.bytes(), (9, row.after), row.line)
+}
+
+// The status of a line whose command returns that, if it is one.
+fn status_of(answer: Answer) -> u8 {
+    match answer {
+        Some(Ok(verdict)) => verdict.status(),
+        Some(Err(_)) => 1,
+        None => 2,
+    }
+}
+
+// What is on standard error then.
+fn reported(alloc: Global, answer: Answer) -> Result<String, Fail> {
+    Ok(match answer {
+        Some(Ok(_)) => String::new(alloc),
+        Some(Err(fault)) => format!(in alloc; "qmeta: fault {}\n", fault.number())?,
+        None => String::from_str(alloc, "usage: qmeta COMMAND IMAGE ARGUMENTS\n")?,
+    })
 }
 
 // The command of a line, if it is one.

@@ -1,0 +1,105 @@
+//! A system that has no files but the known ones in memory that images lie in.
+
+ghost use Rattle.qcow2_testing.specs.contracts.known_files.KnownFilesImageFiles.TheImpl as known_files;
+
+use qcow2_base::{Fault, FileStorage, ImageFiles};
+use qcow2_testing::{KnownFile, KnownFiles};
+use std::alloc::{Alloc, Allocator, Global};
+use std::fs::{File, Metadata, OpenOptions};
+use std::io;
+use std::io::{Empty, ErrorKind};
+use std::rt::Files;
+
+/// Opens images by their paths, and no file in another way.
+#[derive(Drop)]
+pub(crate) struct KnownHost {
+    alloc: Global,
+    pub(crate) images: KnownFiles,
+}
+
+impl KnownHost {
+    /// A system whose images are these bytes, read and written that many at a time.
+    pub(crate) fn new(alloc: Global, bytes: Vec<u8>, step: usize) -> KnownHost {
+        KnownHost {
+            alloc,
+            images: KnownFiles::new(alloc, bytes, step),
+        }
+    }
+}
+
+impl Alloc for KnownHost {
+    type A = Global;
+
+    fn alloc(&self) -> Global {
+        self.alloc
+    }
+}
+
+impl ImageFiles for KnownHost {
+    type Image = KnownFile;
+
+    ghost file_at = { λ host path. (known_files.ghosts).file_at host.images path };
+
+    fn open_image(&mut self, path: &str, writable: bool) -> Result<FileStorage<KnownFile>, Fault> {
+        self.images.open_image(path, writable)
+    }
+
+    fn close_image(&mut self, path: &str, file: KnownFile) {
+        self.images.close_image(path, file)
+    }
+
+    fn image_len(&self, path: &str) -> Result<Option<u64>, Fault> {
+        self.images.image_len(path)
+    }
+}
+
+// What an operation fails with that needs another file.
+fn no_other<T>() -> io::Result<T> {
+    Err(ErrorKind::Unsupported.into())
+}
+
+impl Files for KnownHost {
+    type File = File;
+
+    type Dir = Empty;
+
+    fn open_file(&self, _how: &OpenOptions, _path: &str) -> io::Result<File> {
+        no_other()
+    }
+
+    fn open_dir(&self, _path: &str) -> io::Result<Empty> {
+        no_other()
+    }
+
+    fn metadata(&self, _path: &str) -> io::Result<Metadata> {
+        no_other()
+    }
+
+    fn symlink_metadata(&self, _path: &str) -> io::Result<Metadata> {
+        no_other()
+    }
+
+    fn copy(&self, _from: &str, _to: &str) -> io::Result<u64> {
+        no_other()
+    }
+
+    fn rename(&self, _from: &str, _to: &str) -> io::Result<()> {
+        no_other()
+    }
+
+    fn remove_file(&self, _path: &str) -> io::Result<()> {
+        no_other()
+    }
+
+    fn create_dir(&self, _path: &str) -> io::Result<()> {
+        no_other()
+    }
+
+    fn remove_dir(&self, _path: &str) -> io::Result<()> {
+        no_other()
+    }
+
+    fn remove_dir_all<B: Allocator>(&self, _alloc: B, _path: &str) -> io::Result<()> {
+        no_other()
+    }
+}
