@@ -3,6 +3,7 @@ pub mod Alignment
 pub mod File
 pub mod Growth
 pub mod ImageFile
+pub mod ImageFiles
 pub mod Memory
 pub mod Slice
 use Rattle.std.specs.Prelude.{◌≡◌, ◌≢◌, ℕ, zero, suc, ◌+◌, ◌-◌, ◌*◌, ◌^◌, ◌%◌, ◌<◌, ◌≤◌, ◌↔◌, Bool, IsTrue, List, Option, Some, IfSome, Result, MatchResult, OnOk, IfErr, IsErrOf, length, nat_lt, if◌then◌else◌, slice_index, refl}

@@ -47,12 +47,12 @@ fn new_pages(alloc: Global, size: usize) -> Result<Vec<Page>, AllocError>
     Ok(pages)
 }
 
-impl<S: Storage + Drop> BufferedStorage<S> {
+impl<S: Storage> BufferedStorage<S> {
     ghost use Rattle.std.specs.Prelude.{◌≡◌, MatchResult};
     ghost use Rattle.qcow2_buffered.specs.Buffered.{inner_of};
 
-    /// The same as a storage, with pages as long as an image's clusters, but of 4096 bytes at least and of
-    /// 65536 at most. Returns that storage where memory runs out.
+    /// A storage over this one, with pages as long as an image's clusters, but of 4096 bytes at least and of
+    /// 65536 at most. Gives this one back where memory runs out.
     pub fn new(alloc: Global, inner: S, cluster_size: usize) -> Result<BufferedStorage<S>, S>
         ensures { MatchResult result (λ storage. inner_of storage ≡ inner) (λ back. back ≡ inner) }
     {

@@ -1,6 +1,7 @@
 //! Files whose reads are watched.
 
 ghost use Rattle.qcow2_base.specs.Storage.ImageFile.{unknown_content};
+ghost use Rattle.qcow2_base.specs.Storage.ImageFiles.{ClosesImage, unknown_file};
 
 use super::progress::Progress;
 use qcow2_base::{Fault, FileStorage, ImageFiles, regular_len};
@@ -142,7 +143,7 @@ impl<'a, R: Files, C: Clock, E: Write + Copy> Files for WatchedFiles<'a, R, C, E
 impl<'a, R: Files, C: Clock, E: Write + Copy> ImageFiles for WatchedFiles<'a, R, C, E> {
     type Image = WatchedFile<'a, R::File, C, E>;
 
-    ghost file_at = { λ _ _. unknown_content };
+    ghost file_at = { λ _ _. unknown_file };
 
     fn open_image(
         &mut self,
@@ -152,12 +153,14 @@ impl<'a, R: Files, C: Clock, E: Write + Copy> ImageFiles for WatchedFiles<'a, R,
         FileStorage::open(self, path, writable)
     }
 
-    fn close_image(&mut self, path: &str, file: Self::Image) {
+    fn close_image(&mut self, path: &str, image: FileStorage<Self::Image>)
+        ensures { ClosesImage (λ _. unknown_content) image path.now (λ _. unknown_file) (λ _. unknown_file) }
+    {
         let _ = path;
-        drop(file);
+        drop(image);
     }
 
-    fn image_len(&self, path: &str) -> Result<Option<u64>, Fault> {
+    fn image_len(&mut self, path: &str) -> Result<Option<u64>, Fault> {
         regular_len(self, path)
     }
 }

@@ -1,4 +1,5 @@
 use Rattle.std.proofs.Common.{◌≡◌, ◌≤◌, ◌⊎◌, ℕ, List, [], ◌∷◌, ◌-◌, drop, take, take_all, length, get_or, false, Option, None, Some, Result, Ok, Err, inl, inr, refl, subst, arith, IfSome}
+use Rattle.std.specs.Bool.{IsTrue}
 use Rattle.std.specs.Io.KnownBytes.{Keeps}
 use Rattle.std.specs.Result.{IfOk, IsErr, MatchResult}
 use Rattle.qcow2_base.specs.Storage.{StorageState}
@@ -22,7 +23,8 @@ use Rattle.qcow2_session.specs.declared.commands.verdict.Verdict.TheVariants.{Fi
 -- a run found its header, and stopped before its command
 pub stopped-before : {O : Type 0} (command : Command) (file : FileContent) (header : HeaderRecord) (fault : Fault) (contents : O → OutputBytes) (old left : StorageState) (out : O)
     → FindsHeader (facts_of command) (Ok header) old left
-    → (fault ≡ NoMemory) ⊎ (fault ≡ Storage) ⊎ IsFarEdit file command header fault
+    → ((fault ≡ NoMemory) × IsTrue (facts_of command).reads_all_tables) ⊎ ((fault ≡ Storage) × IsTrue (facts_of command).measures_file)
+    ⊎ IsFarEdit file command header fault
     → AfterHeader (facts_of command) (StopsOrEnds file command) (run_between contents (Err fault) old left out out)
 stopped-before command file header fault contents old left out finds why =
     (Ok header, left, finds, inl (record { fault = why; bytes = refl; output = refl }))

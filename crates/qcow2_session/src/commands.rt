@@ -147,7 +147,9 @@ impl Command {
     }
 
     /// Whether the command reads all tables of its image. Over a file it reads them in pages.
-    pub fn reads_all_tables(&self) -> bool {
+    pub fn reads_all_tables(&self) -> bool
+        ensures { result ≡ (spec.facts_of self.now).reads_all_tables }
+    {
         matches!(
             self,
             Command::List | Command::Map { .. } | Command::Layout { .. } | Command::Check { .. }

@@ -2,6 +2,7 @@
 //! time, and fail where a test plans it.
 
 ghost use Rattle.qcow2_base.specs.Storage.ImageFile.{unknown_content};
+ghost use Rattle.qcow2_base.specs.Storage.ImageFiles.{ClosesImage, unknown_file};
 
 use crate::failing::take_turn;
 use qcow2_base::{Fault, FileStorage, ImageFiles, regular_len};
@@ -230,7 +231,7 @@ impl<R: Files> Files for FaultyFiles<'_, R> {
 impl<R: Files> ImageFiles for FaultyFiles<'_, R> {
     type Image = FaultyFile<R::File>;
 
-    ghost file_at = { λ _ _. unknown_content };
+    ghost file_at = { λ _ _. unknown_file };
 
     fn open_image(
         &mut self,
@@ -240,12 +241,14 @@ impl<R: Files> ImageFiles for FaultyFiles<'_, R> {
         FileStorage::open(self, path, writable)
     }
 
-    fn close_image(&mut self, path: &str, file: Self::Image) {
+    fn close_image(&mut self, path: &str, image: FileStorage<Self::Image>)
+        ensures { ClosesImage (λ _. unknown_content) image path.now (λ _. unknown_file) (λ _. unknown_file) }
+    {
         let _ = path;
-        drop(file);
+        drop(image);
     }
 
-    fn image_len(&self, path: &str) -> Result<Option<u64>, Fault> {
+    fn image_len(&mut self, path: &str) -> Result<Option<u64>, Fault> {
         regular_len(self, path)
     }
 }

@@ -1,4 +1,4 @@
-//! Files in memory whose bytes are known, which go a few bytes at a time and are interrupted.
+//! Files in memory whose bytes are known. They are read and written a few bytes at a time, and interrupted.
 
 ghost use Rattle.std.specs.Prelude.{◌≡◌, ◌<◌, ◌≤◌, ◌+◌, IfOk, length};
 ghost use Rattle.qcow2_base.specs.Format.{max_file_length};
@@ -10,8 +10,8 @@ use std::alloc::Global;
 use std::io;
 use std::io::ErrorKind;
 
-/// A file in memory, whose bytes are known. A call reads or writes a few bytes, and every other one is
-/// interrupted.
+/// A file in memory, whose bytes are known. A call reads or writes a few bytes, and every other read or write
+/// is interrupted.
 #[derive(Debug, Drop)]
 pub struct KnownFile {
     image: MemStorage,
@@ -103,16 +103,18 @@ impl ImageFile for KnownFile {
     ghost ends = { λ file offset past. get_or_past (memory_bytes file.image) offset 0 past };
 }
 
-/// Files in memory that go a few bytes at a time. All paths are names of one file.
+/// Files in memory that are read and written a few bytes at a time. All paths are names of one file. What is
+/// opened is a copy of it until it is closed, unlike a file of the system.
 #[derive(Drop)]
 pub struct KnownFiles {
     alloc: Global,
     image: MemStorage,
     step: usize,
+    failures: u64,
 }
 
 impl KnownFiles {
-    /// A file of these bytes, which goes this many at a time, under each path.
+    /// A file of these bytes under each path, read and written this many at a time.
     pub fn new(alloc: Global, bytes: Vec<u8>, step: usize) -> KnownFiles
         ensures { memory_bytes result.image ≡ bytes.items }
     {
@@ -120,10 +122,11 @@ impl KnownFiles {
             alloc,
             image: MemStorage::new(bytes),
             step,
+            failures: 0,
         }
     }
 
-    /// The file's bytes: those that it had when it was closed last.
+    /// The file's bytes: those that it was made of, or had when it was closed last.
     pub fn bytes(&self) -> &[u8]
         ensures { result.now ≡ memory_bytes self.now.image }
     {
@@ -132,27 +135,34 @@ impl KnownFiles {
 }
 
 impl ImageFiles for KnownFiles {
-    ghost use Rattle.qcow2_testing.specs.KnownFiles.{content_of};
+    ghost use Rattle.qcow2_base.specs.Storage.ImageFiles.{ClosesImage};
+    ghost use Rattle.qcow2_testing.specs.KnownFiles.{known_content, known_file_at};
 
     type Image = KnownFile;
 
-    ghost file_at = { λ files _. content_of (memory_bytes files.image) };
+    ghost file_at = { known_file_at };
 
     fn open_image(&mut self, path: &str, writable: bool) -> Result<FileStorage<KnownFile>, Fault> {
         let _ = path;
         let _ = writable;
         match Vec::from_slice(self.alloc, self.image.bytes()) {
             Ok(bytes) => Ok(FileStorage::new(KnownFile::new(bytes, self.step))),
-            Err(_) => Err(Fault::Storage),
+            Err(_) => {
+                self.failures = 1;
+                Err(Fault::Storage)
+            }
         }
     }
 
-    fn close_image(&mut self, path: &str, file: KnownFile) {
+    fn close_image(&mut self, path: &str, image: FileStorage<KnownFile>)
+        ensures { ClosesImage known_content image path.now (known_file_at self.old) (known_file_at self.new) }
+    {
         let _ = path;
-        self.image = file.image;
+        self.failures = image.failures();
+        self.image = image.into_file().image;
     }
 
-    fn image_len(&self, path: &str) -> Result<Option<u64>, Fault> {
+    fn image_len(&mut self, path: &str) -> Result<Option<u64>, Fault> {
         let _ = path;
         Ok(Some(self.image.bytes().len() as u64))
     }

@@ -10,6 +10,7 @@ mod faults;
 mod faulty_files;
 mod images;
 mod known_files;
+mod pictures;
 mod temporary_files;
 
 pub use comparisons::{each, holds, part_of, printed, row_error, same, same_bytes, same_text};

@@ -31,6 +31,13 @@ impl<F> FileStorage<F> {
         FileStorage { file, failures: 0 }
     }
 
+    /// How many calls have failed so far.
+    pub fn failures(&self) -> u64
+        ensures { result ≡ failures_of self.now }
+    {
+        self.failures
+    }
+
     /// The open file.
     pub fn into_file(self) -> F
         ensures { result ≡ file_of self }

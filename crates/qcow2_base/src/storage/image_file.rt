@@ -26,7 +26,7 @@ pub trait ImageFile {
 
     /// Replaces the bytes from `offset` on by the first of these, and returns how many it wrote. No other
     /// byte changes. A write past the end lengthens the file, with zeros between. After a failure any bytes
-    /// may be in the range of all of them.
+    /// may be in the range of all of them, and nothing is known of the length.
     fn write_at(&mut self, buf: &[u8], offset: u64) -> io::Result<usize>
         ensures { WritesSome result offset buf.now (content self.old) (content self.new) };
 

@@ -1,8 +1,8 @@
 //! Files that images lie in, by path.
 
-ghost use Rattle.std.specs.Prelude.{◌≡◌, ℕ, List, Some, IfOk, IsOkUnless};
-ghost use Rattle.qcow2_base.specs.Storage.File.{file_state, state_over};
-ghost use Rattle.qcow2_base.specs.Storage.ImageFile.{FileContent, OnFile, unknown_content};
+ghost use Rattle.std.specs.Prelude.{ℕ, List, IsOkUnless};
+ghost use Rattle.qcow2_base.specs.Storage.ImageFiles.{ClosesImage, MeasuresImage, OpensImage, PathFile, unknown_file};
+ghost use Rattle.qcow2_base.specs.Storage.ImageFile.{unknown_content};
 
 use super::{FileStorage, ImageFile};
 use crate::Fault;
@@ -14,50 +14,52 @@ use std::rt::Files;
 ///
 /// An implementor says what is known of the file of each path: nothing, where it opens files of the system. A
 /// file whose bytes are known is a regular one. What is written to an open file is known of its path once it
-/// is closed.
+/// is closed here. An open file can't be dropped: its type asks for no `Drop`, so who opens one closes it.
+///
+/// Two paths may be names of one file. Then a call for the one says the same of the other.
 pub trait ImageFiles {
     /// An open file.
-    type Image: ImageFile + Drop;
+    type Image: ImageFile;
 
     /// What is known of the file of a path, by the bytes of that.
-    ghost file_at: { Self → List ℕ → FileContent };
+    ghost file_at: { Self → List ℕ → PathFile };
 
     /// Opens the file of a path, for reading or for both. It must be there, and no directory. Changes no
-    /// file. Returns the storage fault whatever the cause.
+    /// byte. Returns the storage fault whatever the cause.
     fn open_image(&mut self, path: &str, writable: bool) -> Result<FileStorage<Self::Image>, Fault>
         ensures fault { IsOkUnless result Fault.Storage }
-        ensures opened { IfOk result (λ storage.
-            file_state Self.Image.content storage ≡ state_over (file_at self.old path.now) 0) }
-        ensures unchanged { file_at self.new ≡ file_at self.old };
+        ensures opens { OpensImage Self.Image.content result path.now (file_at self.old) (file_at self.new) };
 
-    /// Closes the file of a path, which was opened by that. The path's file is what the open one was.
-    fn close_image(&mut self, path: &str, file: Self::Image)
-        ensures { file_at self.new path.now ≡ Self.Image.content file };
+    /// Closes what `open_image` returned for this path. From then on the path's file has its bytes.
+    fn close_image(&mut self, path: &str, image: FileStorage<Self::Image>)
+        ensures { ClosesImage Self.Image.content image path.now (file_at self.old) (file_at self.new) };
 
-    /// How long the file of a path is, in bytes, or `None` where it is no regular file, as a block device.
-    /// Returns the storage fault whatever the cause.
-    fn image_len(&self, path: &str) -> Result<Option<u64>, Fault>
+    /// How long the file of a path is, in bytes, or `None` where it is no regular file, as a block device. If
+    /// it is open and was written, that isn't known yet. Changes no byte. Returns the storage fault whatever
+    /// the cause.
+    fn image_len(&mut self, path: &str) -> Result<Option<u64>, Fault>
         ensures fault { IsOkUnless result Fault.Storage }
-        ensures len { IfOk result (λ found. OnFile (file_at self.now path.now)
-            (found ≡ Some (file_at self.now path.now).len)) };
+        ensures len { MeasuresImage result path.now (file_at self.old) (file_at self.new) };
 }
 
 /// Files of the system.
 impl ImageFiles for HostRuntime {
     type Image = File;
 
-    ghost file_at = { λ _ _. unknown_content };
+    ghost file_at = { λ _ _. unknown_file };
 
     fn open_image(&mut self, path: &str, writable: bool) -> Result<FileStorage<File>, Fault> {
         FileStorage::open(self, path, writable)
     }
 
-    fn close_image(&mut self, path: &str, file: File) {
+    fn close_image(&mut self, path: &str, image: FileStorage<File>)
+        ensures { ClosesImage (λ _. unknown_content) image path.now (λ _. unknown_file) (λ _. unknown_file) }
+    {
         let _ = path;
-        drop(file);
+        drop(image);
     }
 
-    fn image_len(&self, path: &str) -> Result<Option<u64>, Fault> {
+    fn image_len(&mut self, path: &str) -> Result<Option<u64>, Fault> {
         regular_len(self, path)
     }
 }

@@ -80,7 +80,7 @@ fn files_that_are_known_are_opened_by_path(rt: HostRuntime) -> Result<(), Fail> 
     check_read(rt.alloc(), &mut image)?;
     write(&mut image, &[7, 8], 4)?;
     same(files.bytes(), &[1, 2, 3, 4, 5], "while the file is open")?;
-    files.close_image("any", image.into_file());
+    files.close_image("any", image);
     same(files.bytes(), &[1, 2, 3, 4, 7, 8], "once it is closed")?;
     same(
         files.image_len("any"),

@@ -156,6 +156,7 @@ apply_facts form edits = record {
   loads_to_write = false;
   prints_before_faults = false;
   has_verdict = false;
+  reads_all_tables = false;
   cluster_bits = None;
   place_fault = None;
   Ends = λ header run. EndsApply form edits header run;

@@ -29,6 +29,7 @@ at_facts offset = record {
   loads_to_write = false;
   prints_before_faults = false;
   has_verdict = false;
+  reads_all_tables = false;
   cluster_bits = None;
   place_fault = None;
   Ends = λ header run. Prints run (line_at header offset);

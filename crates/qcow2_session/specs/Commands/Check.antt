@@ -122,6 +122,7 @@ check_facts how = record {
   loads_to_write = false;
   prints_before_faults = prints_early how;
   has_verdict = true;
+  reads_all_tables = true;
   cluster_bits = None;
   place_fault = None;
   Ends = λ header run. EndsCheck how header run;

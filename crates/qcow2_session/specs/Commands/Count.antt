@@ -57,6 +57,7 @@ count_facts cluster steps = record {
   loads_to_write = true;
   prints_before_faults = false;
   has_verdict = false;
+  reads_all_tables = false;
   cluster_bits = None;
   place_fault = None;
   Ends = λ header run.

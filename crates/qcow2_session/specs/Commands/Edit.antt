@@ -82,6 +82,7 @@ edit_facts l1_index edits = record {
   loads_to_write = true;
   prints_before_faults = false;
   has_verdict = false;
+  reads_all_tables = false;
   cluster_bits = None;
   place_fault = None;
   Ends = λ header run. PrintsChange run (l2_layout (geometry_of header)) (end_of_edits l1_index edits header);

@@ -15,6 +15,8 @@ pub record CommandFacts : Type 1 where
   pub prints_before_faults : Bool
   -- whether its runs have verdicts; else all is fine unless they fail
   pub has_verdict : Bool
+  -- whether it reads all tables of its image: its reads of a file go by pages then
+  pub reads_all_tables : Bool
   -- the cluster bits that its words say, where it reads no header
   pub cluster_bits : Option ℕ
   -- why the table that its words name can lie in no image

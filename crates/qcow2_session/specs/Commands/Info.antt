@@ -44,6 +44,7 @@ info_facts = record {
   loads_to_write = false;
   prints_before_faults = false;
   has_verdict = false;
+  reads_all_tables = false;
   cluster_bits = None;
   place_fault = None;
   Ends = λ header run. (run.new ≡ run.old)

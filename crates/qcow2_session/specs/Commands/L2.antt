@@ -40,6 +40,7 @@ l2_facts cb cluster = record {
   loads_to_write = false;
   prints_before_faults = false;
   has_verdict = false;
+  reads_all_tables = false;
   cluster_bits = Some cb;
   place_fault = place_fault (l2_layout (geometry cb false)) cluster;
   Ends = λ header run. Prints run (lines_of_l2_table (geometry cb false) cluster);

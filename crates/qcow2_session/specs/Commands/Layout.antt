@@ -96,6 +96,7 @@ layout_facts form = record {
   loads_to_write = false;
   prints_before_faults = is_printed_in_turn form;
   has_verdict = false;
+  reads_all_tables = true;
   cluster_bits = None;
   place_fault = None;
   Ends = λ header run. PrintsLayout form run header × ReadsFor (IsErrOf run.answer Storage) run.old run.new;

@@ -129,6 +129,7 @@ map_facts format = record {
   loads_to_write = false;
   prints_before_faults = true;
   has_verdict = false;
+  reads_all_tables = true;
   cluster_bits = None;
   place_fault = None;
   Ends = λ header run.

@@ -50,6 +50,7 @@ refcount_facts clusters = record {
   loads_to_write = false;
   prints_before_faults = false;
   has_verdict = false;
+  reads_all_tables = false;
   cluster_bits = None;
   place_fault = None;
   Ends = λ header run. Prints run (counter_lines header clusters);

@@ -13,8 +13,8 @@ fault_line fault = codes "qmeta: fault " ++ decimal (fault_number fault) ++ code
 abbrev pub usage_line : List ℕ
 usage_line = codes "usage: qmeta COMMAND IMAGE ARGUMENTS\n"
 
--- what a run of the program with this status wrote to standard error: the line of a fault, how the program is called, or
--- nothing after any other status
+-- what a run of the program with this status wrote to standard error: the line of a fault, how the program is called, or a
+-- beginning of these; nothing after any other status
 pub record Reports {E : Type 0} (status : ℕ) (contents : E → OutputBytes) (old new : E) : Type 0 where
   pub verdict : status ≢ 1 → status ≢ 2 → new ≡ old
   pub fault : status ≡ 1 → (fault : Fault) × AppendsPart (contents old) (contents new) (fault_line fault)

@@ -40,7 +40,7 @@ abbrev pub Runs : {O : Type 0} → CommandFacts → Run Verdict O → Type 0
 Runs facts run = AfterHeader facts facts.Ends run
 
 -- a run of a command with its header: it ends as it should. Only a command that may change its image changes a byte, and only
--- one that may print before faults prints lines before its own
+-- one that may print before faults prints lines before one other than the storage fault
 pub record EndsRun {O : Type 0} (facts : CommandFacts) (header : HeaderRecord) (run : Run Verdict O) : Type 0 where
   pub ends : facts.Ends header run
   pub unchanged : facts.changes_image ≡ false → run.new.byte_at ≡ run.old.byte_at

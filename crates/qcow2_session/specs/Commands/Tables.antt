@@ -96,6 +96,7 @@ tables_facts = record {
   loads_to_write = false;
   prints_before_faults = false;
   has_verdict = false;
+  reads_all_tables = false;
   cluster_bits = None;
   place_fault = None;
   Ends = λ header run. Prints run (tables_lines header);

@@ -1,15 +1,17 @@
 //! Running a command over its image, and the whole program.
 
-ghost use Rattle.std.specs.Prelude.{◌≡◌, ◌≤◌, ◌↔◌, None, Ok, Err, false, map, string_bytes, IsErr, IfOk, IfSome, OnErr, OnOk, MatchResult};
+ghost use Rattle.std.specs.Prelude.{◌≡◌, ◌≤◌, ◌↔◌, None, Ok, Err, false, map, string_bytes, IsErr, IsOkUnless, IfOk, IfSome, OnErr, OnOk, MatchResult};
 ghost use Rattle.std.specs.Io.KnownBytes.{Keeps};
 ghost use Rattle.qcow2_base.specs.Storage.File.{file_state};
+ghost use Rattle.qcow2_base.specs.Storage.ImageFile.{FileContent};
+ghost use Rattle.qcow2_base.specs.Storage.ImageFiles.{ChangesOne, FailsFor};
 ghost use Rattle.qcow2_base.specs.declared.fault.Fault.TheVariants.{Storage as StorageFailed};
 ghost use Rattle.qcow2_session.specs.Commands.{AskForNothing, command_by_name, command_of, facts_of, image_name};
 ghost use Rattle.qcow2_session.specs.Commands.Explain.{PrintsExplained, explained_text};
 ghost use Rattle.qcow2_session.specs.Commands.Help.{PrintsAsked, asked_text, text_of};
 ghost use Rattle.qcow2_session.specs.Commands.Printing.{AppendsPart, PrintsLast, run_over};
 ghost use Rattle.qcow2_session.specs.Commands.Report.{Reports, fault_line};
-ghost use Rattle.qcow2_session.specs.Commands.RunningOnFiles.{ComparesWithFile, RunsOnFile, RunsWords, StopsOrEnds};
+ghost use Rattle.qcow2_session.specs.Commands.RunningOnFiles.{ComparesWithFile, IsLengthFor, RunsOnFile, RunsWords, StopsOrEnds};
 ghost use Rattle.qcow2_session.specs.Commands.Running.{AfterHeader, EndsAndFlushes, FindsHeader, IsHeaderFor, Runs};
 ghost use Rattle.qcow2_session.specs.Commands.Verdict.{fine_unless_failed, status_of_verdict};
 ghost use Rattle.qcow2_session.specs.declared.commands.verdict.Verdict.TheVariants.{Fine};
@@ -32,7 +34,7 @@ use super::report::{refuse_words, report_fault};
 use super::tables::print_tables;
 use super::verdict::Verdict;
 use crate::lines::print;
-use qcow2_base::{Fault, FileStorage, ImageFiles, Storage};
+use qcow2_base::{Fault, FileStorage, ImageFile, ImageFiles, Storage};
 use qcow2_buffered::BufferedStorage;
 use qcow2_metadata::Header;
 use std::alloc::Global;
@@ -48,7 +50,7 @@ use std::rt::Files;
 /// print a text there, and open no image; `explain` of an image goes on with lines on where in it the fault
 /// is. A fault is the line `qmeta: fault N` on `err`, wrong words are the usage line there. `out` is flushed
 /// after a command, `err` after a line on it. A failed write to `out` is the storage fault; one to `err`
-/// changes nothing. No file changes but by a command, and that in the file of its image.
+/// changes nothing. Only a command changes a file, and only that of its image.
 #[tactic(auto, using(crate::proofs::HelpLemmas::asked_is_no_command))]
 pub fn run_words<R: Files + ImageFiles + AllocGlobal, O: Write, E: Write>(
     rt: &mut R,
@@ -133,7 +135,7 @@ fn print_asked<O: Write, E: Write>(text: HelpText, out: &mut O, err: &mut E) -> 
 }
 
 // Runs the command that words ask for, and returns the status: 2 where they ask for none.
-fn run_command<R: Files + ImageFiles + AllocGlobal, O: Write, E: Write>(
+fn run_command<R: ImageFiles + AllocGlobal, O: Write, E: Write>(
     rt: &mut R,
     words: &[String],
     out: &mut O,
@@ -196,8 +198,9 @@ fn status_of<E: Write>(ran: Result<Verdict, Fault>, err: &mut E) -> u8
 ///
 /// Returns 34 where the file can't be opened, or for `apply` its length can't be had; 35 where memory runs
 /// out for the pages. `apply` returns 32 and the position of the first edit that maps a cluster past the end
-/// of the image's file, where that is a regular file, or that doesn't fit the disk. After these the file is
-/// as it was, and nothing is printed. Else it returns what `run` does, and 34 where the flush fails.
+/// of the image's file, where that is a regular file, or that doesn't fit the disk. After these nothing is
+/// printed, and the file is as it was, but for what the load of the header wrote. Else it returns what `run`
+/// does, and 34 where the flush fails. No other file changes.
 pub fn run_on_file<R: ImageFiles, O: Write>(
     alloc: Global,
     files: &mut R,
@@ -207,27 +210,47 @@ pub fn run_on_file<R: ImageFiles, O: Write>(
 ) -> Result<Verdict, Fault>
     ensures runs { RunsOnFile command.now (R.file_at files.old path.now) (R.file_at files.new path.now) result
         O.contents out.old out.new }
+    ensures others { ChangesOne path.now (R.file_at files.old) (R.file_at files.new) }
     ensures place { IfSome (facts_of command.now).place_fault (λ fault.
         IsErr result × Keeps (O.contents out.old) (O.contents out.new)) }
     ensures verdict { (facts_of command.now).has_verdict ≡ false → IfOk result (λ verdict. verdict ≡ Fine) }
 {
+    let len = length_for(files, path, command)?;
     let image = files.open_image(path, command.changes_image())?;
-    let (image, ran) = run_in_file(alloc, files, path, image, command, out);
-    files.close_image(path, image.into_file());
+    let (image, ran) = run_in_file(alloc, image, len, command, out);
+    files.close_image(path, image);
     ran
 }
 
-// Runs a command over an image in the open file of a path, and returns the file too.
-fn run_in_file<R: ImageFiles, O: Write>(
-    alloc: Global,
-    files: &R,
+// How long the file of a path is, if it is a regular one and the command compares its edits with that.
+fn length_for<R: ImageFiles>(
+    files: &mut R,
     path: &str,
-    mut image: FileStorage<R::Image>,
+    command: &Command,
+) -> Result<Option<u64>, Fault>
+    ensures fault { IsOkUnless result Fault.Storage }
+    ensures len { IfOk result (λ len. IsLengthFor (R.file_at files.old path.now).content command.now len
+        × (R.file_at files.new ≡ R.file_at files.old)) }
+    ensures refused { OnErr result (FailsFor path.now (R.file_at files.old) (R.file_at files.new)) }
+{
+    match command {
+        Command::Apply { .. } => files.image_len(path),
+        _ => Ok(None),
+    }
+}
+
+// Runs a command over an image in an open file, of this length if it is known, and returns that file, to be
+// closed.
+fn run_in_file<F: ImageFile, O: Write>(
+    alloc: Global,
+    mut image: FileStorage<F>,
+    len: Option<u64>,
     command: &Command,
     out: &mut O,
-) -> (FileStorage<R::Image>, Result<Verdict, Fault>)
-    ensures runs { AfterHeader (facts_of command.now) (StopsOrEnds (R.file_at files.now path.now) command.now)
-        (run_over (file_state R.Image.content) O.contents result.1 image result.0 out.old out.new) }
+) -> (FileStorage<F>, Result<Verdict, Fault>)
+    ensures runs { (file : FileContent) → IsLengthFor file command.now len →
+        AfterHeader (facts_of command.now) (StopsOrEnds file command.now)
+        (run_over (file_state F.content) O.contents result.1 image result.0 out.old out.new) }
     ensures place { IfSome (facts_of command.now).place_fault (λ fault.
         IsErr result.1 × Keeps (O.contents out.old) (O.contents out.new)) }
     ensures verdict { (facts_of command.now).has_verdict ≡ false →
@@ -237,7 +260,7 @@ fn run_in_file<R: ImageFiles, O: Write>(
         Ok(header) => header,
         Err(fault) => return (image, Err(fault)),
     };
-    if let Err(fault) = refuse_far_clusters(files, path, &header, command) {
+    if let Err(fault) = refuse_far_clusters(len, &header, command) {
         return (image, Err(fault));
     }
     if !command.reads_all_tables() {
@@ -255,18 +278,14 @@ fn run_in_file<R: ImageFiles, O: Write>(
 
 // Refuses edits of a disk that map clusters past the end of the image's file, by 32 and the position of the
 // first that does, or that doesn't fit the disk. What isn't a regular file has no end that is known.
-fn refuse_far_clusters<R: ImageFiles>(
-    files: &R,
-    path: &str,
-    header: &Header,
-    command: &Command,
-) -> Result<(), Fault>
-    ensures { ComparesWithFile (R.file_at files.now path.now) command.now header.now result }
+fn refuse_far_clusters(len: Option<u64>, header: &Header, command: &Command) -> Result<(), Fault>
+    ensures { (file : FileContent) → IsLengthFor file command.now len →
+        ComparesWithFile file command.now header.now result }
 {
     let Command::Apply { edits, .. } = command else {
         return Ok(());
     };
-    let Some(len) = files.image_len(path)? else {
+    let Some(len) = len else {
         return Ok(());
     };
     if header.external_data_file() {

@@ -1,6 +1,7 @@
 //! A system that has no files but the known ones in memory that images lie in.
 
-ghost use Rattle.qcow2_testing.specs.contracts.known_files.KnownFilesImageFiles.TheImpl as known_files;
+ghost use Rattle.qcow2_base.specs.Storage.ImageFiles.{ClosesImage};
+ghost use Rattle.qcow2_testing.specs.KnownFiles.{known_content, known_file_at};
 
 use qcow2_base::{Fault, FileStorage, ImageFiles};
 use qcow2_testing::{KnownFile, KnownFiles};
@@ -38,17 +39,20 @@ impl Alloc for KnownHost {
 impl ImageFiles for KnownHost {
     type Image = KnownFile;
 
-    ghost file_at = { λ host path. (known_files.ghosts).file_at host.images path };
+    ghost file_at = { λ host path. known_file_at host.images path };
 
     fn open_image(&mut self, path: &str, writable: bool) -> Result<FileStorage<KnownFile>, Fault> {
         self.images.open_image(path, writable)
     }
 
-    fn close_image(&mut self, path: &str, file: KnownFile) {
-        self.images.close_image(path, file)
+    fn close_image(&mut self, path: &str, image: FileStorage<KnownFile>)
+        ensures { ClosesImage known_content image path.now
+            (known_file_at self.old.images) (known_file_at self.new.images) }
+    {
+        self.images.close_image(path, image)
     }
 
-    fn image_len(&self, path: &str) -> Result<Option<u64>, Fault> {
+    fn image_len(&mut self, path: &str) -> Result<Option<u64>, Fault> {
         self.images.image_len(path)
     }
 }

@@ -21,4 +21,4 @@ returns-in-Ok-new-clause-runs g c =
 pub returns-in-Err-new-clause-runs : goal.returns-in-Err-new-clause-runs
 returns-in-Err-new-clause-runs g c =
     rw (ap (file_state g.R.Image.ImageFile.content) c.in-Err-new.ensures)
-    (stopped-before c.args.command.now _ c.in-Ok.header _ g.O.Write.contents _ _ _ c.in-Ok.ensures (inl refl))
+    (stopped-before c.args.command.now _ c.in-Ok.header _ g.O.Write.contents _ _ _ c.in-Ok.ensures (inl (refl, c.if-not-reads_all_tables.false)))
