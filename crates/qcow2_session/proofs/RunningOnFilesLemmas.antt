@@ -1,18 +1,20 @@
-use Rattle.std.proofs.Common.{◌≡◌, ◌≤◌, ◌⊎◌, ℕ, List, [], ◌∷◌, ◌-◌, drop, take, take_all, length, get_or, false, Option, None, Some, Result, Ok, Err, inl, inr, refl, subst, arith, IfSome}
+use Rattle.std.proofs.Common.{◌≡◌, ◌≤◌, ◌⊎◌, ℕ, List, [], ◌∷◌, ◌-◌, drop, take, take_all, length, get_or, false, Option, None, Some, Result, Ok, Err, inl, inr, refl, subst, sym, arith, IfSome}
 use Rattle.std.specs.Bool.{IsTrue}
 use Rattle.std.specs.Io.KnownBytes.{Keeps}
 use Rattle.std.specs.Result.{IfOk, IsErr, MatchResult}
 use Rattle.qcow2_base.specs.Storage.{StorageState}
-use Rattle.qcow2_base.specs.Storage.File.{state_over}
+use Rattle.qcow2_base.specs.Storage.File.{failures_of, file_of, file_state, state_over}
 use Rattle.qcow2_base.specs.Storage.ImageFile.{FileContent}
+use Rattle.qcow2_base.specs.Storage.ImageFiles.{ChangesOne, ClosesImage, FailsFor, PathFile}
 use Rattle.qcow2_base.specs.declared.fault.Fault.{Fault}
 use Rattle.qcow2_base.specs.declared.fault.Fault.TheVariants.{NoMemory, Storage}
+use Rattle.qcow2_base.specs.declared.storage.file.FileStorage.{FileStorage}
 use Rattle.qcow2_metadata.specs.Header.{HeaderRecord}
 use Rattle.qcow2_session.proofs.PrintingLemmas.{run_between}
 use Rattle.qcow2_session.specs.Commands.{command_by_name, command_of, facts_of, image_name}
 use Rattle.qcow2_session.specs.Commands.Printing.{AppendsPart, OutputBytes}
 use Rattle.qcow2_session.specs.Commands.Report.{fault_line}
-use Rattle.qcow2_session.specs.Commands.RunningOnFiles.{AreNear, IsFarEdit, ReportsFault, RunsLine, RunsOnFile, RunsWords, StopsOrEnds}
+use Rattle.qcow2_session.specs.Commands.RunningOnFiles.{AreNear, IsFarEdit, IsLengthFor, ReportsFault, RunsLine, RunsOnFile, RunsWords, StopsOrEnds}
 use Rattle.qcow2_session.specs.Commands.Running.{AfterHeader, EndsAndFlushes, FindsHeader}
 use Rattle.qcow2_session.specs.Commands.Verdict.{status_of_verdict}
 use Rattle.qcow2_session.specs.Commands.Words.{Word, WordList}
@@ -23,8 +25,7 @@ use Rattle.qcow2_session.specs.declared.commands.verdict.Verdict.TheVariants.{Fi
 -- a run found its header, and stopped before its command
 pub stopped-before : {O : Type 0} (command : Command) (file : FileContent) (header : HeaderRecord) (fault : Fault) (contents : O → OutputBytes) (old left : StorageState) (out : O)
     → FindsHeader (facts_of command) (Ok header) old left
-    → ((fault ≡ NoMemory) × IsTrue (facts_of command).reads_all_tables) ⊎ ((fault ≡ Storage) × IsTrue (facts_of command).measures_file)
-    ⊎ IsFarEdit file command header fault
+    → ((fault ≡ NoMemory) × IsTrue (facts_of command).reads_all_tables) ⊎ IsFarEdit file command header fault
     → AfterHeader (facts_of command) (StopsOrEnds file command) (run_between contents (Err fault) old left out out)
 stopped-before command file header fault contents old left out finds why =
     (Ok header, left, finds, inl (record { fault = why; bytes = refl; output = refl }))
@@ -43,16 +44,36 @@ ran-between command file header answer contents old left begun ended new before 
       inr (near, subst (λ (s : StorageState). EndsAndFlushes (facts_of command) header (run_between contents answer s ended before after)) same ends),
     )
 
+-- the file of a path could not be measured or opened, after calls that changed none
+pub not-opened : {O : Type 0} (command : Command) (path : Word) (old left new : Word → PathFile) (answer : Result Verdict Fault) (contents : O → OutputBytes) (out : O)
+    → answer ≡ Err Storage → left ≡ old → FailsFor path left new
+    → RunsOnFile command (old path) (new path) answer contents out out
+not-opened command path old left new answer contents out is same fails =
+    let failed = subst (λ (files : Word → PathFile). FailsFor path files new) same fails in
+    inl (is, failed.content, failed.counted, refl)
+
 -- what a run left in the open file of a path is in that once it is closed
-pub closed-file : {O : Type 0} (command : Command) (old opened new left : FileContent) (answer : Result Verdict Fault) (contents : O → OutputBytes)
-    (begun : StorageState) (failures : ℕ) (before after : O)
-    → begun ≡ state_over old 0 → opened ≡ old → new ≡ left
-    → AfterHeader (facts_of command) (StopsOrEnds opened command) (run_between contents answer begun (state_over left failures) before after)
-    → RunsOnFile command old new answer contents before after
-closed-file command old opened new left answer contents begun failures before after is same closed ran =
-    let opening = subst (λ (s : StorageState). AfterHeader (facts_of command) (StopsOrEnds opened command) (run_between contents answer s (state_over left failures) before after)) is ran in
-    let known = subst (λ (f : FileContent). AfterHeader (facts_of command) (StopsOrEnds f command) (run_between contents answer (state_over old 0) (state_over left failures) before after)) same opening in
-    rw closed (inr (failures, known))
+pub closed-file : {F O : Type 0} (known : F → FileContent) (command : Command) (path : Word) (old measured opened new : Word → PathFile) (len : Option ℕ)
+    (begun ended : FileStorage F) (answer : Result Verdict Fault) (contents : O → OutputBytes) (before after : O)
+    → IsLengthFor (old path).content command len → measured ≡ old
+    → known (file_of begun) ≡ (measured path).content → failures_of begun ≡ 0
+    → ((file : FileContent) → IsLengthFor file command len
+        → AfterHeader (facts_of command) (StopsOrEnds file command) (run_between contents answer (file_state known begun) (file_state known ended) before after))
+    → ClosesImage known ended path opened new
+    → RunsOnFile command (old path) (new path) answer contents before after
+closed-file known command path old measured opened new len begun ended answer contents before after length same is none ran closes =
+    let file = (old path).content in
+    let first : known (file_of begun) ≡ file = subst (λ (files : Word → PathFile). known (file_of begun) ≡ (files path).content) same is in
+    let Ran : FileContent → ℕ → FileContent → Type 0 = λ content failures left. AfterHeader (facts_of command) (StopsOrEnds file command)
+        (run_between contents answer (state_over content failures) (state_over left (failures_of ended)) before after) in
+    let over = subst (λ (content : FileContent). Ran content (failures_of begun) (known (file_of ended))) first (ran file length) in
+    let anew = subst (λ (failures : ℕ). Ran file failures (known (file_of ended))) none over in
+    let left = subst (λ (content : FileContent). Ran file 0 content) (sym closes.content) anew in
+    inr (failures_of ended, λ tells. sym (closes.failures (rw closes.content at tells)), left)
+
+-- what changed after calls that changed nothing
+pub changed-since : (path : Word) (old left new : Word → PathFile) → left ≡ old → ChangesOne path left new → ChangesOne path old new
+changed-since path old left new same changes = subst (λ (files : Word → PathFile). ChangesOne path files new) same changes
 
 -- the command that a line of words asks for ran over the file that its second word names
 pub line-of-words : (words : WordList) (name image : Word) (arguments : WordList) (P : Option Command → Word → Type 0)
@@ -60,7 +81,7 @@ pub line-of-words : (words : WordList) (name image : Word) (arguments : WordList
 line-of-words words name image arguments P same ran = rw same ran
 
 -- words that ask for no command change no file
-pub line-of-none : {O : Type 0} (meant : Option Command) (path : Word) (files : Word → FileContent) (status : ℕ) (contents : O → OutputBytes) (before after : O) (told telling : OutputBytes)
+pub line-of-none : {O : Type 0} (meant : Option Command) (path : Word) (files : Word → PathFile) (status : ℕ) (contents : O → OutputBytes) (before after : O) (told telling : OutputBytes)
     → meant ≡ None → RunsWords meant path files files status contents before after told telling
 line-of-none meant path files status contents before after told telling none = rw none refl
 
@@ -78,21 +99,21 @@ two-items (one ∷ two ∷ items) first second enough at next =
     rw (at, next, rest) refl
 
 -- memory ran out for a line's words
-pub line-unread : {O : Type 0} (meant : Option Command) (path : Word) (files : Word → FileContent) (status : ℕ) (contents : O → OutputBytes) (out : O) (told telling : OutputBytes)
+pub line-unread : {O : Type 0} (meant : Option Command) (path : Word) (files : Word → PathFile) (status : ℕ) (contents : O → OutputBytes) (out : O) (told telling : OutputBytes)
     → status ≡ 1 → AppendsPart told telling (fault_line NoMemory) → RunsWords meant path files files status contents out out told telling
 line-unread None path files status contents out told telling is line = refl
-line-unread (Some command) path files status contents out told telling is line = record {
+line-unread (Some command) path files status contents out told telling is line = (record {
   runs = inl ((is, line), refl, refl);
   place = placed (facts_of command).place_fault;
   verdict = λ none. omega (arith, is);
-}
+}, λ other. inl refl)
   where
     placed : (found : Option Fault) → IfSome found (λ _. (status ≡ 1) × Keeps (contents out) (contents out))
     placed None = tt
     placed (Some fault) = (is, kept (contents out))
 
 -- a command ran over a file, and its answer gave the status
-pub line-ended : {O : Type 0} (command : Command) (old new : FileContent) (answer : Result Verdict Fault) (status : ℕ) (contents : O → OutputBytes) (before after : O) (told telling : OutputBytes) (Silent : Type 0)
+pub line-ended : {O : Type 0} (command : Command) (old new : PathFile) (answer : Result Verdict Fault) (status : ℕ) (contents : O → OutputBytes) (before after : O) (told telling : OutputBytes) (Silent : Type 0)
     → RunsOnFile command old new answer contents before after
     → IfSome (facts_of command).place_fault (λ _. IsErr answer × Keeps (contents before) (contents after))
     → ((facts_of command).has_verdict ≡ false → IfOk answer (λ verdict. verdict ≡ Fine))

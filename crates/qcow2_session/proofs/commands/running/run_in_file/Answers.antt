@@ -4,21 +4,21 @@ use Rattle.qcow2_session.proofs.RunningOnFilesLemmas.{ran-between, stopped-befor
 use Rattle.qcow2_session.proofs.commands.running.run_in_file.Goals as goal
 
 pub returns-in-Err-refuse_far_clusters-clause-runs : goal.returns-in-Err-refuse_far_clusters-clause-runs
-returns-in-Err-refuse_far_clusters-clause-runs g c =
-    stopped-before c.args.command.now _ c.in-Ok.header _ g.O.Write.contents _ _ _ c.in-Ok.ensures (inr c.in-Err-refuse_far_clusters.ensures)
+returns-in-Err-refuse_far_clusters-clause-runs g c = λ file length.
+    stopped-before c.args.command.now file c.in-Ok.header _ g.O.Write.contents _ _ _ c.in-Ok.ensures (inr (c.in-Err-refuse_far_clusters.ensures file length))
 
 pub returns-then-not-reads_all_tables-clause-runs : goal.returns-then-not-reads_all_tables-clause-runs
-returns-then-not-reads_all_tables-clause-runs g c =
-    ran-between c.args.command.now _ c.in-Ok.header _ g.O.Write.contents _ _ _ _ _ _ _
-    c.in-Ok.ensures c.in_default.ensures refl refl c.run_and_flush-ran.ensures.ends
+returns-then-not-reads_all_tables-clause-runs g c = λ file length.
+    ran-between c.args.command.now file c.in-Ok.header _ g.O.Write.contents _ _ _ _ _ _ _
+    c.in-Ok.ensures (c.in_default.ensures file length) refl refl c.run_and_flush-ran.ensures.ends
 
 pub returns-in-Ok-new-clause-runs : goal.returns-in-Ok-new-clause-runs
-returns-in-Ok-new-clause-runs g c =
-    let state = file_state g.R.Image.ImageFile.content in
-    ran-between c.args.command.now _ c.in-Ok.header _ g.O.Write.contents _ _ _ _ _ _ _
-    c.in-Ok.ensures c.in_default.ensures (ap state c.in-Ok-new.ensures) (ap state c.into_inner.ensures) c.run_and_flush-ran-in-Ok-new.ensures.ends
+returns-in-Ok-new-clause-runs g c = λ file length.
+    let state = file_state g.F.ImageFile.content in
+    ran-between c.args.command.now file c.in-Ok.header _ g.O.Write.contents _ _ _ _ _ _ _
+    c.in-Ok.ensures (c.in_default.ensures file length) (ap state c.in-Ok-new.ensures) (ap state c.into_inner.ensures) c.run_and_flush-ran-in-Ok-new.ensures.ends
 
 pub returns-in-Err-new-clause-runs : goal.returns-in-Err-new-clause-runs
-returns-in-Err-new-clause-runs g c =
-    rw (ap (file_state g.R.Image.ImageFile.content) c.in-Err-new.ensures)
-    (stopped-before c.args.command.now _ c.in-Ok.header _ g.O.Write.contents _ _ _ c.in-Ok.ensures (inl (refl, c.if-not-reads_all_tables.false)))
+returns-in-Err-new-clause-runs g c = λ file length.
+    rw (ap (file_state g.F.ImageFile.content) c.in-Err-new.ensures)
+    (stopped-before c.args.command.now file c.in-Ok.header _ g.O.Write.contents _ _ _ c.in-Ok.ensures (inl (refl, c.if-not-reads_all_tables.false)))

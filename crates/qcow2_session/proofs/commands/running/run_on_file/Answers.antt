@@ -1,18 +1,25 @@
-use Rattle.std.proofs.Common.{◌∙◌, ap, inl, refl}
+use Rattle.std.proofs.Common.{◌∙◌, refl}
 use Rattle.std.proofs.lemmas.Result.{err_from_is_err_and}
-use Rattle.qcow2_base.specs.Storage.ImageFile.{FileContent}
-use Rattle.qcow2_session.proofs.RunningOnFilesLemmas.{closed-file}
-use Rattle.qcow2_session.specs.Commands.Words.{Word}
+use Rattle.qcow2_session.proofs.RunningOnFilesLemmas.{changed-since, closed-file, not-opened}
 use Rattle.qcow2_session.proofs.commands.running.run_on_file.Goals as goal
+
+pub returns-in_err-len-clause-runs : goal.returns-in_err-len-clause-runs
+returns-in_err-len-clause-runs g c =
+    let exit = err_from_is_err_and c.from_residual.result c.from_residual.ensures.1 in
+    not-opened c.args.command.now c.args.path.now _ _ _ _ g.O.Write.contents _ (rw (exit.1, exit.2, c.in_err-len.ensures.fault) refl) refl c.in_err-len.ensures.refused
 
 pub returns-in_err-image-clause-runs : goal.returns-in_err-image-clause-runs
 returns-in_err-image-clause-runs g c =
     let exit = err_from_is_err_and c.from_residual.result c.from_residual.ensures.1 in
-    let same = ap (λ (files : Word → FileContent). files c.args.path.now) c.in_err-image.ensures.unchanged in
-    inl (rw (exit.1, exit.2, c.in_err-image.ensures.fault) refl, same, refl)
+    not-opened c.args.command.now c.args.path.now _ _ _ _ g.O.Write.contents _ (rw (exit.1, exit.2, c.in_err-image.ensures.fault) refl)
+    c.in_ok-len.ensures.len.1 c.in_err-image.ensures.opens.refused
 
 pub returns-clause-runs : goal.returns-clause-runs
 returns-clause-runs g c =
-    let same = ap (λ (files : Word → FileContent). files c.args.path.now) c.in_ok-image.ensures.unchanged in
-    closed-file c.args.command.now _ _ _ _ _ g.O.Write.contents _ _ _ _ c.in_ok-image.ensures.opened same
-    (c.close_image.ensures ∙ ap g.R.Image.ImageFile.content c.into_file.ensures) c.run_in_file-image.ensures.runs
+    let opened = c.in_ok-image.ensures.opens.opened in
+    closed-file g.R.Image.ImageFile.content c.args.command.now c.args.path.now _ _ _ _ _ _ _ _ g.O.Write.contents _ _
+    c.in_ok-len.ensures.len.0 c.in_ok-len.ensures.len.1 opened.0 opened.1 c.run_in_file-image.ensures.runs c.close_image.ensures
+
+pub returns-clause-others : goal.returns-clause-others
+returns-clause-others g c =
+    changed-since c.args.path.now _ _ _ (c.in_ok-image.ensures.opens.opened.2 ∙ c.in_ok-len.ensures.len.1) c.close_image.ensures.others
