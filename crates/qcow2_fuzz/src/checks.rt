@@ -16,7 +16,6 @@ use crate::random::Random;
 use crate::trial::Trial;
 use qcow2_base::Fault;
 use readings::Readings;
-use std::io::Write;
 
 /// Each command once, for an image whose header is refused.
 const LINES: &[(Kind, &str)] = &[
@@ -39,10 +38,7 @@ const LINES: &[(Kind, &str)] = &[
 ];
 
 /// Runs all commands on an image, and reports what doesn't hold.
-pub(crate) fn check_image<O: Write>(
-    trial: &mut Trial<'_, O>,
-    random: &mut Random,
-) -> Result<(), Fault> {
+pub(crate) fn check_image(trial: &mut Trial<'_>, random: &mut Random) -> Result<(), Fault> {
     if let Err(fault) = trial.run(Kind::Info, "info IMAGE")? {
         return check_refusal(trial, fault);
     }
@@ -55,8 +51,8 @@ pub(crate) fn check_image<O: Write>(
 }
 
 // Runs the commands that change the image, each on the image as it was.
-fn check_changes<O: Write>(
-    trial: &mut Trial<'_, O>,
+fn check_changes(
+    trial: &mut Trial<'_>,
     random: &mut Random,
     readings: &Readings,
 ) -> Result<(), Fault> {
@@ -70,7 +66,7 @@ fn check_changes<O: Write>(
 }
 
 // Runs each command on an image whose header is refused. That all are refused alike is looked at by each run.
-fn check_refusal<O: Write>(trial: &mut Trial<'_, O>, fault: Fault) -> Result<(), Fault> {
+fn check_refusal(trial: &mut Trial<'_>, fault: Fault) -> Result<(), Fault> {
     trial.set_header_fault(Some(fault));
     for (kind, line) in LINES {
         trial.restore()?;

@@ -117,9 +117,11 @@ fn try_image(
 ) -> Result<(), Fault> {
     let mut random = Random::new(seed);
     let image = drawn_image(rt.alloc(), &mut random, files)?;
-    let mut out = rt.stdout();
-    let mut trial = Trial::new(rt.alloc(), seed, &image, tally, &mut out)?;
-    checks::check_image(&mut trial, &mut random)
+    let mut trial = Trial::new(rt.alloc(), seed, &image, *tally)?;
+    let ended = checks::check_image(&mut trial, &mut random);
+    *tally = trial.tally;
+    let _ = rt.stdout().write_all(&trial.report);
+    ended
 }
 
 // An image: a made one, or where there are files, one of these as often, with changes.

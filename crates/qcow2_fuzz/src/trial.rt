@@ -22,13 +22,15 @@ pub(crate) struct Tally {
     pub(crate) wrong: u64,
 }
 
-/// An image as it was made, as commands left it, and where to report what is wrong.
+/// An image as it was made, as commands left it, and what is wrong.
 #[derive(Drop)]
-pub(crate) struct Trial<'a, O> {
+pub(crate) struct Trial<'a> {
     pub(crate) alloc: Global,
     pub(crate) seed: u64,
-    pub(crate) tally: &'a mut Tally,
-    pub(crate) report: &'a mut O,
+    /// The runs of this image and of those before it.
+    pub(crate) tally: Tally,
+    /// A line for each run that isn't as it must be.
+    pub(crate) report: Vec<u8>,
     pub(crate) before: &'a [u8],
     pub(crate) fields: Fields,
     image: BoundedStorage<MemStorage>,
@@ -41,20 +43,19 @@ pub(crate) struct Trial<'a, O> {
     runs: u64,
 }
 
-impl<'a, O: Write> Trial<'a, O> {
+impl<'a> Trial<'a> {
     /// The image of these bytes, on which nothing has run.
     pub(crate) fn new(
         alloc: Global,
         seed: u64,
         before: &'a [u8],
-        tally: &'a mut Tally,
-        report: &'a mut O,
-    ) -> Result<Trial<'a, O>, Fault> {
+        tally: Tally,
+    ) -> Result<Trial<'a>, Fault> {
         Ok(Trial {
             alloc,
             seed,
             tally,
-            report,
+            report: Vec::new(alloc),
             before,
             fields: Fields::of(before),
             image: image_of(alloc, before)?,

@@ -58,14 +58,14 @@ pub closed-file : {F O : Type 0} (known : F → FileContent) (command : Command)
     → IsLengthFor (old path).content command len → measured ≡ old
     → known (file_of begun) ≡ (measured path).content → failures_of begun ≡ 0
     → ((file : FileContent) → IsLengthFor file command len
-        → AfterHeader (facts_of command) (StopsOrEnds file command) (run_between contents answer (file_state known begun) (file_state known ended) before after))
+    → AfterHeader (facts_of command) (StopsOrEnds file command) (run_between contents answer (file_state known begun) (file_state known ended) before after))
     → ClosesImage known ended path opened new
     → RunsOnFile command (old path) (new path) answer contents before after
 closed-file known command path old measured opened new len begun ended answer contents before after length same is none ran closes =
     let file = (old path).content in
     let first : known (file_of begun) ≡ file = subst (λ (files : Word → PathFile). known (file_of begun) ≡ (files path).content) same is in
     let Ran : FileContent → ℕ → FileContent → Type 0 = λ content failures left. AfterHeader (facts_of command) (StopsOrEnds file command)
-        (run_between contents answer (state_over content failures) (state_over left (failures_of ended)) before after) in
+    (run_between contents answer (state_over content failures) (state_over left (failures_of ended)) before after) in
     let over = subst (λ (content : FileContent). Ran content (failures_of begun) (known (file_of ended))) first (ran file length) in
     let anew = subst (λ (failures : ℕ). Ran file failures (known (file_of ended))) none over in
     let left = subst (λ (content : FileContent). Ran file 0 content) (sym closes.content) anew in
@@ -102,11 +102,14 @@ two-items (one ∷ two ∷ items) first second enough at next =
 pub line-unread : {O : Type 0} (meant : Option Command) (path : Word) (files : Word → PathFile) (status : ℕ) (contents : O → OutputBytes) (out : O) (told telling : OutputBytes)
     → status ≡ 1 → AppendsPart told telling (fault_line NoMemory) → RunsWords meant path files files status contents out out told telling
 line-unread None path files status contents out told telling is line = refl
-line-unread (Some command) path files status contents out told telling is line = (record {
-  runs = inl ((is, line), refl, refl);
-  place = placed (facts_of command).place_fault;
-  verdict = λ none. omega (arith, is);
-}, λ other. inl refl)
+line-unread (Some command) path files status contents out told telling is line = (
+  record {
+    runs = inl ((is, line), refl, refl);
+    place = placed (facts_of command).place_fault;
+    verdict = λ none. omega (arith, is);
+  },
+  λ other. inl refl,
+)
   where
     placed : (found : Option Fault) → IfSome found (λ _. (status ≡ 1) × Keeps (contents out) (contents out))
     placed None = tt

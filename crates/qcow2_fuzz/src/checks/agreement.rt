@@ -9,16 +9,12 @@ use crate::random::Random;
 use crate::text::{Content, Extent, Listed, Mapping, listed_in, mapping_of};
 use crate::trial::{Answer, Trial};
 use qcow2_base::Fault;
-use std::io::Write;
 
 /// How many offsets are looked up.
 const LOOKUPS: u32 = 6;
 
 /// Reports extents that don't follow one another over the disk, or say otherwise than `list` or JSON.
-pub(crate) fn check_map<O: Write>(
-    trial: &mut Trial<'_, O>,
-    readings: &Readings,
-) -> Result<(), Fault> {
+pub(crate) fn check_map(trial: &mut Trial<'_>, readings: &Readings) -> Result<(), Fault> {
     let (fields, line) = (trial.fields, "map IMAGE");
     let extents = readings.extents.as_slice();
     let end = end_of(extents);
@@ -109,7 +105,7 @@ fn matched(extent: &Extent, lines: &[Listed], cluster_size: u64) -> Option<usize
 }
 
 // Runs `map` for other programs, and reports other extents.
-fn check_json<O: Write>(trial: &mut Trial<'_, O>, readings: &Readings) -> Result<(), Fault> {
+fn check_json(trial: &mut Trial<'_>, readings: &Readings) -> Result<(), Fault> {
     let line = "map IMAGE json";
     let map = trial.run(Kind::Map, line)?;
     let rows = rows_of(trial.alloc, readings.extents.as_slice(), map.is_ok())?;
@@ -121,8 +117,8 @@ fn check_json<O: Write>(trial: &mut Trial<'_, O>, readings: &Readings) -> Result
 }
 
 /// Looks up offsets by `at`, and a table by `l2`, and reports what `list` says otherwise.
-pub(crate) fn check_lookups<O: Write>(
-    trial: &mut Trial<'_, O>,
+pub(crate) fn check_lookups(
+    trial: &mut Trial<'_>,
     random: &mut Random,
     readings: &Readings,
 ) -> Result<(), Fault> {
@@ -134,7 +130,7 @@ pub(crate) fn check_lookups<O: Write>(
 }
 
 // An offset at which an entry is listed, at which an extent begins or ends, or any.
-fn drawn_offset<O: Write>(trial: &Trial<'_, O>, random: &mut Random, readings: &Readings) -> u64 {
+fn drawn_offset(trial: &Trial<'_>, random: &mut Random, readings: &Readings) -> u64 {
     let index = random.below(readings.listed.len().max(readings.extents.len()) as u64) as usize;
     let listed = readings.listed.as_slice().get(index);
     let extent = readings.extents.as_slice().get(index);
@@ -148,11 +144,7 @@ fn drawn_offset<O: Write>(trial: &Trial<'_, O>, random: &mut Random, readings: &
     }
 }
 
-fn check_lookup<O: Write>(
-    trial: &mut Trial<'_, O>,
-    readings: &Readings,
-    offset: u64,
-) -> Result<(), Fault> {
+fn check_lookup(trial: &mut Trial<'_>, readings: &Readings, offset: u64) -> Result<(), Fault> {
     let line = format!(in trial.alloc; "at IMAGE {offset}")?;
     let at = trial.run(Kind::At, line.as_str())?;
     let distance = trial.fields.within_cluster(offset);
@@ -204,11 +196,7 @@ fn agrees_with_map(
 }
 
 // Lists a table by `l2` that an L1 entry names, and reports other lines than those of `list`.
-fn check_l2<O: Write>(
-    trial: &mut Trial<'_, O>,
-    random: &mut Random,
-    readings: &Readings,
-) -> Result<(), Fault> {
+fn check_l2(trial: &mut Trial<'_>, random: &mut Random, readings: &Readings) -> Result<(), Fault> {
     let fields = trial.fields;
     let tables = fields.named_tables(trial.alloc, trial.before)?;
     let l1_index = drawn::l1_index(tables.as_slice(), random);

@@ -8,11 +8,10 @@ use crate::random::Random;
 use crate::text::{Listed, Mapping, Totals};
 use crate::trial::{Answer, Trial, is_same_from};
 use qcow2_base::Fault;
-use std::io::Write;
 
 /// Plans edits of the disk, makes them, and reports what isn't as `check` and the plan say.
-pub(crate) fn check_edits<O: Write>(
-    trial: &mut Trial<'_, O>,
+pub(crate) fn check_edits(
+    trial: &mut Trial<'_>,
     random: &mut Random,
     readings: &Readings,
 ) -> Result<(), Fault> {
@@ -47,11 +46,7 @@ fn is_of_storage(answer: Answer) -> bool {
 }
 
 // Checks an image after edits, and reports findings that edits don't bring.
-fn check_kept_books<O: Write>(
-    trial: &mut Trial<'_, O>,
-    readings: &Readings,
-    line: &str,
-) -> Result<(), Fault> {
+fn check_kept_books(trial: &mut Trial<'_>, readings: &Readings, line: &str) -> Result<(), Fault> {
     let (check, totals) = read_check(trial)?;
     if !readings.lie_apart() {
         return Ok(());
@@ -71,11 +66,7 @@ fn keeps_books(before: &Totals, after: &Totals) -> bool {
 }
 
 // Checks an image after edits that a refused write broke off: it has leaks at most.
-fn check_torn<O: Write>(
-    trial: &mut Trial<'_, O>,
-    readings: &Readings,
-    line: &str,
-) -> Result<(), Fault> {
+fn check_torn(trial: &mut Trial<'_>, readings: &Readings, line: &str) -> Result<(), Fault> {
     let (check, totals) = read_check(trial)?;
     if readings.lie_apart() && !readings.totals.has_errors() {
         let holds = check.is_ok() && !totals.has_errors();
@@ -85,8 +76,8 @@ fn check_torn<O: Write>(
 }
 
 /// Takes the data of a guest cluster away, and maps it anew, and reports what isn't as before.
-pub(crate) fn check_undone<O: Write>(
-    trial: &mut Trial<'_, O>,
+pub(crate) fn check_undone(
+    trial: &mut Trial<'_>,
     random: &mut Random,
     readings: &Readings,
 ) -> Result<(), Fault> {
@@ -124,11 +115,7 @@ pub(crate) fn check_undone<O: Write>(
 }
 
 // The guest offset and the cluster of data that is listed as copied, in an image without errors.
-fn drawn_data<O: Write>(
-    trial: &Trial<'_, O>,
-    random: &mut Random,
-    readings: &Readings,
-) -> Option<(u64, u64)> {
+fn drawn_data(trial: &Trial<'_>, random: &mut Random, readings: &Readings) -> Option<(u64, u64)> {
     if !readings.lie_apart() || readings.totals.has_errors() || trial.fields.is_external {
         return None;
     }

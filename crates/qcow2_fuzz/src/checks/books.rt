@@ -9,7 +9,6 @@ use crate::text::{json_number, last_line, number_of, offset_of};
 use crate::trial::Trial;
 use qcow2_base::Fault;
 use qcow2_session::Verdict;
-use std::io::Write;
 
 /// A line of `tables` on an L2 table.
 #[derive(Clone, Copy)]
@@ -21,8 +20,8 @@ struct PlacedTable {
 }
 
 /// Runs these commands, and reports what they say otherwise than `check`.
-pub(crate) fn check_books<O: Write>(
-    trial: &mut Trial<'_, O>,
+pub(crate) fn check_books(
+    trial: &mut Trial<'_>,
     random: &mut Random,
     readings: &Readings,
 ) -> Result<(), Fault> {
@@ -48,7 +47,7 @@ pub(crate) fn check_books<O: Write>(
     check_counters(trial, random)
 }
 
-fn check_json<O: Write>(trial: &mut Trial<'_, O>, readings: &Readings) -> Result<(), Fault> {
+fn check_json(trial: &mut Trial<'_>, readings: &Readings) -> Result<(), Fault> {
     let line = "check IMAGE json";
     let check = trial.run(Kind::Check, line)?;
     let totals = readings.totals;
@@ -68,7 +67,7 @@ fn check_json<O: Write>(trial: &mut Trial<'_, O>, readings: &Readings) -> Result
     Ok(())
 }
 
-fn check_layout<O: Write>(trial: &mut Trial<'_, O>, readings: &Readings) -> Result<(), Fault> {
+fn check_layout(trial: &mut Trial<'_>, readings: &Readings) -> Result<(), Fault> {
     let line = "layout IMAGE";
     let layout = trial.run(Kind::Layout, line)?;
     let is_row = end_of_runs(trial.printed()).is_some();
@@ -104,7 +103,7 @@ fn end_of_runs(text: &str) -> Option<u64> {
 }
 
 // Runs `tables`, and `refcount` of the clusters of L2 tables.
-fn check_tables<O: Write>(trial: &mut Trial<'_, O>) -> Result<(), Fault> {
+fn check_tables(trial: &mut Trial<'_>) -> Result<(), Fault> {
     let line = "tables IMAGE";
     let tables = trial.run(Kind::Tables, line)?;
     if tables.is_err() {
@@ -149,7 +148,7 @@ fn placed_table_of(line: &str) -> Option<PlacedTable> {
 }
 
 // Whether the L1 entry names the table, and maps what is said.
-fn is_named<O: Write>(trial: &Trial<'_, O>, table: &PlacedTable) -> bool {
+fn is_named(trial: &Trial<'_>, table: &PlacedTable) -> bool {
     let fields = trial.fields;
     let offset = table.cluster.wrapping_mul(fields.cluster_size());
     offset == fields.l2_offset(trial.before, table.l1_index)
@@ -157,7 +156,7 @@ fn is_named<O: Write>(trial: &Trial<'_, O>, table: &PlacedTable) -> bool {
 }
 
 // Runs `refcount` of clusters that may be any.
-fn check_counters<O: Write>(trial: &mut Trial<'_, O>, random: &mut Random) -> Result<(), Fault> {
+fn check_counters(trial: &mut Trial<'_>, random: &mut Random) -> Result<(), Fault> {
     let first = drawn::cluster(&trial.fields, random);
     let second = drawn::cluster(&trial.fields, random);
     let line = format!(in trial.alloc; "refcount IMAGE {first} {second}")?;

@@ -6,13 +6,9 @@ use crate::numbers::u64_at;
 use crate::random::Random;
 use crate::trial::Trial;
 use qcow2_base::Fault;
-use std::io::Write;
 
 /// Makes a step of a counter, and then the opposite one, and reports what isn't as before.
-pub(crate) fn check_undone<O: Write>(
-    trial: &mut Trial<'_, O>,
-    random: &mut Random,
-) -> Result<(), Fault> {
+pub(crate) fn check_undone(trial: &mut Trial<'_>, random: &mut Random) -> Result<(), Fault> {
     let fields = trial.fields;
     let number = u64_at(trial.before, fields.reftable_offset);
     let block = fields.cluster_of(number);
@@ -55,7 +51,7 @@ pub(crate) fn check_undone<O: Write>(
 }
 
 // Whether a step prints the counter that `refcount` printed of its cluster.
-fn is_counter<O: Write>(trial: &Trial<'_, O>, counter: &String, index: u64) -> bool {
+fn is_counter(trial: &Trial<'_>, counter: &String, index: u64) -> bool {
     let Ok(expected) = format!(in trial.alloc; "{index} ") else {
         return false;
     };
@@ -64,10 +60,7 @@ fn is_counter<O: Write>(trial: &Trial<'_, O>, counter: &String, index: u64) -> b
 }
 
 /// Makes steps that may be any.
-pub(crate) fn run_any<O: Write>(
-    trial: &mut Trial<'_, O>,
-    random: &mut Random,
-) -> Result<(), Fault> {
+pub(crate) fn run_any(trial: &mut Trial<'_>, random: &mut Random) -> Result<(), Fault> {
     let fields = trial.fields;
     let block = drawn::cluster(&fields, random);
     let first = drawn::index(fields.block_entries(), random);

@@ -8,7 +8,6 @@ use crate::numbers::u64_at;
 use crate::random::Random;
 use crate::trial::Trial;
 use qcow2_base::Fault;
-use std::io::Write;
 
 /// How many entries are edited at once at most.
 const MOST_EDITS: u64 = 3;
@@ -34,8 +33,8 @@ struct Undone {
 }
 
 /// Edits a table, and edits it back, and reports what isn't as before.
-pub(crate) fn check_undone<O: Write>(
-    trial: &mut Trial<'_, O>,
+pub(crate) fn check_undone(
+    trial: &mut Trial<'_>,
     random: &mut Random,
     readings: &Readings,
 ) -> Result<(), Fault> {
@@ -70,7 +69,7 @@ pub(crate) fn check_undone<O: Write>(
 }
 
 // The first entry that is edited: one that is listed, or any.
-fn first_index<O: Write>(trial: &Trial<'_, O>, random: &mut Random, readings: &Readings) -> u64 {
+fn first_index(trial: &Trial<'_>, random: &mut Random, readings: &Readings) -> u64 {
     let fields = trial.fields;
     let entry = random.below(readings.listed.len() as u64) as usize;
     match readings.listed.as_slice().get(entry) {
@@ -82,8 +81,8 @@ fn first_index<O: Write>(trial: &Trial<'_, O>, random: &mut Random, readings: &R
 }
 
 // Edits of entries in a row that can be undone.
-fn drawn_edits<O: Write>(
-    trial: &Trial<'_, O>,
+fn drawn_edits(
+    trial: &Trial<'_>,
     random: &mut Random,
     table: u64,
     first: u64,
@@ -116,8 +115,8 @@ fn entry_of(number: u64, cluster_bits: u32) -> Option<Entry> {
     }
 }
 
-fn add_edit<O: Write>(
-    trial: &Trial<'_, O>,
+fn add_edit(
+    trial: &Trial<'_>,
     random: &mut Random,
     undone: &mut Undone,
     index: u64,
@@ -147,11 +146,7 @@ fn add_undo(undone: &mut Undone, index: u64, entry: Entry) -> Result<(), Fault> 
 }
 
 // Looks up the first edited entry, and reports what its edit doesn't say.
-fn check_edited<O: Write>(
-    trial: &mut Trial<'_, O>,
-    undone: &Undone,
-    l1_index: u64,
-) -> Result<(), Fault> {
+fn check_edited(trial: &mut Trial<'_>, undone: &Undone, l1_index: u64) -> Result<(), Fault> {
     let Some((index, expected)) = expected_of(trial, undone)? else {
         return Ok(());
     };
@@ -169,10 +164,7 @@ fn check_edited<O: Write>(
 }
 
 // The index of the first edit, and what a mapping begins with that it leaves.
-fn expected_of<O: Write>(
-    trial: &Trial<'_, O>,
-    undone: &Undone,
-) -> Result<Option<(u64, String)>, Fault> {
+fn expected_of(trial: &Trial<'_>, undone: &Undone) -> Result<Option<(u64, String)>, Fault> {
     let alloc = trial.alloc;
     let word = undone.edits.as_str().split(' ').nth(1).unwrap_or("");
     let (name, numbers) = word.split_once(':').unwrap_or((word, ""));
@@ -192,10 +184,7 @@ fn expected_of<O: Write>(
 }
 
 /// Makes edits that may be any.
-pub(crate) fn run_any<O: Write>(
-    trial: &mut Trial<'_, O>,
-    random: &mut Random,
-) -> Result<(), Fault> {
+pub(crate) fn run_any(trial: &mut Trial<'_>, random: &mut Random) -> Result<(), Fault> {
     let tables = trial.fields.named_tables(trial.alloc, trial.before)?;
     let l1_index = drawn::l1_index(tables.as_slice(), random);
     let words = drawn::edits(trial.alloc, &trial.fields, random)?;

@@ -3,16 +3,12 @@
 use super::readings::Readings;
 use crate::trial::Trial;
 use qcow2_base::Fault;
-use std::io::Write;
 
 /// What `explain` says where it finds no fault.
 const NONE: &str = "in IMAGE: this image doesn't have this fault\n";
 
 /// Looks for the fault of `check`, or else of `list`.
-pub(crate) fn check_faults<O: Write>(
-    trial: &mut Trial<'_, O>,
-    readings: &Readings,
-) -> Result<(), Fault> {
+pub(crate) fn check_faults(trial: &mut Trial<'_>, readings: &Readings) -> Result<(), Fault> {
     match (readings.check, readings.list) {
         (Err(fault), _) | (_, Err(fault)) => check_fault(trial, fault),
         _ => Ok(()),
@@ -20,7 +16,7 @@ pub(crate) fn check_faults<O: Write>(
 }
 
 /// Looks for a fault.
-pub(crate) fn check_fault<O: Write>(trial: &mut Trial<'_, O>, fault: Fault) -> Result<(), Fault> {
+pub(crate) fn check_fault(trial: &mut Trial<'_>, fault: Fault) -> Result<(), Fault> {
     let number = fault.number();
     let lines = trial.explain(number)?;
     let is_found = lines.as_str() != NONE && lines.as_str().starts_with("in IMAGE: ");

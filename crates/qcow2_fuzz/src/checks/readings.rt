@@ -6,7 +6,6 @@ use crate::random::Random;
 use crate::text::{Extent, Listed, Totals, extents_in, listed_in, totals_in};
 use crate::trial::{Answer, Trial};
 use qcow2_base::Fault;
-use std::io::Write;
 
 /// What commands returned and printed.
 #[derive(Drop)]
@@ -29,10 +28,7 @@ impl Readings {
 }
 
 /// Runs `list`, `map` and `check`, and those whose text is compared with nothing.
-pub(crate) fn read<O: Write>(
-    trial: &mut Trial<'_, O>,
-    random: &mut Random,
-) -> Result<Readings, Fault> {
+pub(crate) fn read(trial: &mut Trial<'_>, random: &mut Random) -> Result<Readings, Fault> {
     let (list, listed) = read_list(trial)?;
     let (map, extents) = read_map(trial)?;
     let (check, totals) = read_check(trial)?;
@@ -48,7 +44,7 @@ pub(crate) fn read<O: Write>(
     })
 }
 
-fn read_list<O: Write>(trial: &mut Trial<'_, O>) -> Result<(Answer, Vec<Listed>), Fault> {
+fn read_list(trial: &mut Trial<'_>) -> Result<(Answer, Vec<Listed>), Fault> {
     let list = trial.run(Kind::List, "list IMAGE")?;
     match listed_in(trial.alloc, trial.printed())? {
         Some(listed) => Ok((list, listed)),
@@ -59,7 +55,7 @@ fn read_list<O: Write>(trial: &mut Trial<'_, O>) -> Result<(Answer, Vec<Listed>)
     }
 }
 
-fn read_map<O: Write>(trial: &mut Trial<'_, O>) -> Result<(Answer, Vec<Extent>), Fault> {
+fn read_map(trial: &mut Trial<'_>) -> Result<(Answer, Vec<Extent>), Fault> {
     let map = trial.run(Kind::Map, "map IMAGE")?;
     match extents_in(trial.alloc, trial.printed())? {
         Some(extents) => Ok((map, extents)),
@@ -71,7 +67,7 @@ fn read_map<O: Write>(trial: &mut Trial<'_, O>) -> Result<(Answer, Vec<Extent>),
 }
 
 /// Runs `check`, and returns its totals too. Where it is refused, there are none.
-pub(crate) fn read_check<O: Write>(trial: &mut Trial<'_, O>) -> Result<(Answer, Totals), Fault> {
+pub(crate) fn read_check(trial: &mut Trial<'_>) -> Result<(Answer, Totals), Fault> {
     let check = trial.run(Kind::Check, "check IMAGE")?;
     match totals_in(trial.printed()) {
         Some(totals) => Ok((check, totals)),
@@ -88,7 +84,7 @@ pub(crate) fn read_check<O: Write>(trial: &mut Trial<'_, O>) -> Result<(Answer, 
 }
 
 // Runs `l2` on a cluster that may be anything.
-fn run_l2_anywhere<O: Write>(trial: &mut Trial<'_, O>, random: &mut Random) -> Result<(), Fault> {
+fn run_l2_anywhere(trial: &mut Trial<'_>, random: &mut Random) -> Result<(), Fault> {
     let cluster = drawn::cluster(&trial.fields, random);
     let cluster_bits = random.below(5).saturating_add(9);
     let line = format!(in trial.alloc; "l2 IMAGE {cluster_bits} {cluster}")?;

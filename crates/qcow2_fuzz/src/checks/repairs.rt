@@ -5,13 +5,9 @@ use crate::kinds::Kind;
 use crate::text::{extents_in, totals_in};
 use crate::trial::Trial;
 use qcow2_base::Fault;
-use std::io::Write;
 
 /// Repairs the image, and reports what isn't so.
-pub(crate) fn check_repair<O: Write>(
-    trial: &mut Trial<'_, O>,
-    readings: &Readings,
-) -> Result<(), Fault> {
+pub(crate) fn check_repair(trial: &mut Trial<'_>, readings: &Readings) -> Result<(), Fault> {
     let line = "check IMAGE repair";
     let repair = trial.run(Kind::Repair, line)?;
     if repair.is_err() {

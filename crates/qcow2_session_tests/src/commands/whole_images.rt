@@ -273,16 +273,17 @@ pub(crate) fn sample_file<'a>(
     temporary_file(rt, name, image.bytes())
 }
 
-// How a run that ends so opens its image: a line that is no command opens none.
+// How a run that ends so opens its image. A line that is no command opens none, and `apply` none that isn't
+// there, since it asks for the length first.
 fn opens_of(line: &str, ended: Ended<'_>) -> Opens {
     let changes = line.starts_with("edit ")
         || line.starts_with("count ")
         || line.ends_with(" repair")
         || line.starts_with("apply ") && !line.contains(" plan ");
-    let is_command = !matches!(ended, NoCommand(_));
+    let is_opened = !matches!(ended, NoCommand(_)) && !line.starts_with("apply no-such-folder/");
     Opens {
-        reading: u64::from(is_command && !changes),
-        other: u64::from(is_command && changes),
+        reading: u64::from(is_opened && !changes),
+        other: u64::from(is_opened && changes),
     }
 }
 

@@ -21,4 +21,4 @@ returns-in-Ok-new-clause-runs g c = λ file length.
 pub returns-in-Err-new-clause-runs : goal.returns-in-Err-new-clause-runs
 returns-in-Err-new-clause-runs g c = λ file length.
     rw (ap (file_state g.F.ImageFile.content) c.in-Err-new.ensures)
-    (stopped-before c.args.command.now file c.in-Ok.header _ g.O.Write.contents _ _ _ c.in-Ok.ensures (inl (refl, c.if-not-reads_all_tables.false)))
+    (stopped-before c.args.command.now file c.in-Ok.header _ g.O.Write.contents _ _ _ c.in-Ok.ensures (inl (refl, rw c.reads_all_tables.ensures at c.if-not-reads_all_tables.false)))

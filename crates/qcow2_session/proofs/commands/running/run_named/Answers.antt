@@ -10,9 +10,11 @@ returns-in-Some-Ok-clause-reports g c = reports-run _ _ _ _ _ c.status_of.ensure
 pub returns-in-Some-Ok-clause-command : goal.returns-in-Some-Ok-clause-command
 returns-in-Some-Ok-clause-command g c =
     let asked : command_by_name c.args.name.now c.args.image.now (map string_bytes c.args.arguments.now) ≡ Some c.in-Some-Ok.command = search rules in
-    rw asked (line-ended c.in-Some-Ok.command _ _ _ _ g.O.Write.contents _ _ _ _ _
-    c.run_on_file.ensures.runs c.run_on_file.ensures.place c.run_on_file.ensures.verdict c.status_of.ensures.status c.status_of.ensures.line,
-    c.run_on_file.ensures.others)
+    rw asked (
+      line-ended c.in-Some-Ok.command _ _ _ _ g.O.Write.contents _ _ _ _ _
+          c.run_on_file.ensures.runs c.run_on_file.ensures.place c.run_on_file.ensures.verdict c.status_of.ensures.status c.status_of.ensures.line,
+      c.run_on_file.ensures.others,
+    )
 
 pub returns-in-Some-Err-clause-command : goal.returns-in-Some-Err-clause-command
 returns-in-Some-Err-clause-command g c = line-unread (command_by_name c.args.name.now c.args.image.now (map string_bytes c.args.arguments.now))

@@ -10,7 +10,7 @@ returns-in_err-len-clause-runs g c =
 
 pub returns-in_err-image-clause-runs : goal.returns-in_err-image-clause-runs
 returns-in_err-image-clause-runs g c =
-    let exit = err_from_is_err_and c.from_residual.result c.from_residual.ensures.1 in
+    let exit = err_from_is_err_and c.from_residual-in_err-image.result c.from_residual-in_err-image.ensures.1 in
     not-opened c.args.command.now c.args.path.now _ _ _ _ g.O.Write.contents _ (rw (exit.1, exit.2, c.in_err-image.ensures.fault) refl)
     c.in_ok-len.ensures.len.1 c.in_err-image.ensures.opens.refused
 
