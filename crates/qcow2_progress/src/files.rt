@@ -154,7 +154,8 @@ impl<'a, R: Files, C: Clock, E: Write + Copy> ImageFiles for WatchedFiles<'a, R,
     }
 
     fn close_image(&mut self, path: &str, image: FileStorage<Self::Image>)
-        ensures { ClosesImage (λ _. unknown_content) image.entry path.now (λ _. unknown_file) (λ _. unknown_file) }
+        ensures { ClosesImage (λ _. unknown_content) image.entry path.now
+            (λ _. unknown_file) (λ _. unknown_file) }
     {
         let _ = path;
         drop(image);

@@ -1,9 +1,13 @@
-use Rattle.std.proofs.Common.{◌≡◌, ℕ, Bool, true, false, List, [], ◌∷◌, ◌++◌, Option, Some, None, bytes_eq, codes, refl, sym, subst, arith, inr, append-nil}
+use Rattle.std.proofs.Common.{◌≡◌, ℕ, Bool, true, false, List, [], ◌∷◌, ◌++◌, Option, Some, None, bytes_eq, codes, refl, sym, subst, arith, inl, inr, ◌≤◌}
 use Rattle.std.proofs.lemmas.Slice.Eq.{bytes_eq-Decides}
+use Rattle.std.specs.Io.KnownBytes.{Keeps}
+use Rattle.qcow2_base.specs.declared.fault.Fault.{Fault}
+use Rattle.qcow2_session.proofs.HelpLemmas.{asked_status}
 use Rattle.qcow2_session.specs.Commands.{command_by_name, command_of}
 use Rattle.qcow2_session.specs.Commands.Explain.{PrintsExplained, explained_text, located_text}
 use Rattle.qcow2_session.specs.Commands.Help.{PrintsAsked, asked_text, explain_text}
 use Rattle.qcow2_session.specs.Commands.Printing.{AppendsPart}
+use Rattle.qcow2_session.specs.Commands.Report.{fault_line}
 
 -- words that ask where a fault is ask for no command
 pub explained_is_no_command : (words : List (List ℕ)) (text : List ℕ) → explained_text words ≡ Some text → command_of words ≡ None
@@ -31,16 +35,22 @@ asked_is_not_explained (name ∷ arguments) text asked = by_name (bytes_eq name 
         rw same (no_place arguments text (subst (λ (n : List ℕ). asked_text (n ∷ arguments) ≡ Some text) ((bytes_eq-Decides name (codes "explain")).0 same) asked))
     by_name false other = rw other refl
 
--- an output that got nothing has a beginning of any text
-pub nothing_got : (a : Option (List ℕ)) (text : List ℕ) → AppendsPart a a text
-nothing_got None text = tt
-nothing_got (Some xs) text = (0, sym (append-nil xs))
+nothing_got : (a : Option (List ℕ)) → Keeps a a
+nothing_got None = tt
+nothing_got (Some bytes) = refl
 
 -- the text on a fault and some lines were printed, or a beginning of them
-pub explained_printed : (status : ℕ) (a b : Option (List ℕ)) (text answer : List ℕ) → (lines : List ℕ) × (answer ≡ text ++ lines) → PrintsAsked status answer a b
-    → PrintsExplained status text a b
-explained_printed status a b text answer is prints = (is.0, subst (λ (bytes : List ℕ). PrintsAsked status bytes a b) is.1 prints)
+pub explained_printed : (status : ℕ) (a b told telling : Option (List ℕ)) (text answer : List ℕ) → (lines : List ℕ) × (answer ≡ text ++ lines)
+    → PrintsAsked status answer a b told telling → PrintsExplained status text a b told telling
+explained_printed status a b told telling text answer is prints =
+    inl (is.0, subst (λ (bytes : List ℕ). PrintsAsked status bytes a b told telling) is.1 prints)
+
+-- they end a run with 0 or 1
+pub explained_status : (status : ℕ) (a b told telling : Option (List ℕ)) (text : List ℕ) → PrintsExplained status text a b told telling → status ≤ 4
+explained_status status a b told telling text (inl prints) = asked_status status (text ++ prints.0) a b told telling prints.1
+explained_status status a b told telling text (inr refused) = omega (arith, refused.1.0)
 
 -- nothing was printed before a fault was reported
-pub explained_refused : (status : ℕ) (a : Option (List ℕ)) (text : List ℕ) → status ≡ 1 → PrintsExplained status text a a
-explained_refused status a text is = ([], inr (is, nothing_got a (text ++ [])))
+pub explained_refused : (status : ℕ) (a told telling : Option (List ℕ)) (text : List ℕ) (fault : Fault) → status ≡ 1 → AppendsPart told telling (fault_line fault)
+    → PrintsExplained status text a a told telling
+explained_refused status a told telling text fault is line = inr (fault, (is, line), nothing_got a)

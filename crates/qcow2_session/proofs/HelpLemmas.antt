@@ -11,6 +11,7 @@ use Rattle.qcow2_session.specs.Commands.Help.{PrintsAsked, asked_text, first_lin
 use Rattle.qcow2_base.specs.declared.fault.Fault.TheVariants.{Storage}
 use Rattle.qcow2_session.proofs.OutputLemmas.{part_taken}
 use Rattle.qcow2_session.specs.Commands.Printing.{AppendsPart, PrintsText}
+use Rattle.qcow2_session.specs.Commands.Report.{ReportsFault, fault_line}
 use Rattle.qcow2_session.specs.Commands.Verdict.{fine_unless_failed, status_of_verdict}
 use Rattle.qcow2_session.specs.declared.commands.verdict.Verdict.{Verdict}
 
@@ -88,18 +89,20 @@ all-part : (a b : Option (List ℕ)) (text : List ℕ) → Appends a b text → 
 all-part a b text got = part_taken a b text (length text) (rw (take_all (length text) text (omega arith)) got)
 
 -- a text was printed, and the output was flushed after it
-pub asked_printed : {E : Type 0} (printed : Result (Unit {0}) Fault) (ran ended : Result Verdict Fault) (flushed : Result (Unit {0}) E) (status : ℕ) (a b c : Option (List ℕ)) (text : List ℕ)
+pub asked_printed : {E : Type 0} (printed : Result (Unit {0}) Fault) (ran ended : Result Verdict Fault) (flushed : Result (Unit {0}) E) (status : ℕ) (a b c told telling : Option (List ℕ)) (text : List ℕ) (Silent : Type 0)
     → PrintsText printed a b text → Keeps b c → ran ≡ fine_unless_failed printed → OnErr ran (ended ≡ ran)
     → OnOk ran (MatchResult flushed (λ _. ended ≡ ran) (λ _. ended ≡ Err Storage))
-    → MatchResult ended (λ verdict. status ≡ status_of_verdict verdict) (λ _. status ≡ 1) → PrintsAsked status text a c
-asked_printed (Ok done) ran ended (Ok flushed) status a b c text prints kept is own flush ends =
+    → MatchResult ended (λ verdict. status ≡ status_of_verdict verdict) (λ _. status ≡ 1)
+    → MatchResult ended (λ _. Silent) (λ fault. AppendsPart told telling (fault_line fault)) → PrintsAsked status text a c told telling
+asked_printed (Ok done) ran ended (Ok flushed) status a b c told telling text Silent prints kept is own flush ends line =
     inl ((rw (rw is at flush) at ends), kept-appends a b c text prints.text kept)
-asked_printed (Ok done) ran ended (Err error) status a b c text prints kept is own flush ends =
-    inr ((rw (rw is at flush) at ends), kept-part a b c text (all-part a b text prints.text) kept)
-asked_printed (Err fault) ran ended flushed status a b c text prints kept is own flush ends =
-    inr ((rw (rw is at own) at ends), kept-part a b c text prints.part kept)
+asked_printed (Ok done) ran ended (Err error) status a b c told telling text Silent prints kept is own flush ends line =
+    inr ((rw (rw is at flush) at ends, rw (rw is at flush) at line), kept-part a b c text (all-part a b text prints.text) kept)
+asked_printed (Err fault) ran ended flushed status a b c told telling text Silent prints kept is own flush ends line =
+    let reported : ReportsFault fault status told telling = (rw (rw is at own) at ends, rw (rw is at own) at line) in
+    inr (subst (λ (f : Fault). ReportsFault f status told telling) prints.fault reported, kept-part a b c text prints.part kept)
 
 -- a text that was asked for ends a run with 0 or 1
-pub asked_status : (status : ℕ) (text : List ℕ) (a b : Option (List ℕ)) → PrintsAsked status text a b → status ≤ 4
-asked_status status text a b (inl printed) = omega (arith, printed.0)
-asked_status status text a b (inr cut) = omega (arith, cut.0)
+pub asked_status : (status : ℕ) (text : List ℕ) (a b told telling : Option (List ℕ)) → PrintsAsked status text a b told telling → status ≤ 4
+asked_status status text a b told telling (inl printed) = omega (arith, printed.0)
+asked_status status text a b told telling (inr cut) = omega (arith, cut.0.0)

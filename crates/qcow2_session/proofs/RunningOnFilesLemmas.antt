@@ -13,8 +13,8 @@ use Rattle.qcow2_metadata.specs.Header.{HeaderRecord}
 use Rattle.qcow2_session.proofs.PrintingLemmas.{run_between}
 use Rattle.qcow2_session.specs.Commands.{command_by_name, command_of, facts_of, image_name}
 use Rattle.qcow2_session.specs.Commands.Printing.{AppendsPart, OutputBytes}
-use Rattle.qcow2_session.specs.Commands.Report.{fault_line}
-use Rattle.qcow2_session.specs.Commands.RunningOnFiles.{AreNear, IsFarEdit, IsLengthFor, ReportsFault, RunsLine, RunsOnFile, RunsWords, StopsOrEnds}
+use Rattle.qcow2_session.specs.Commands.Report.{ReportsFault, fault_line}
+use Rattle.qcow2_session.specs.Commands.RunningOnFiles.{AreNear, IsFarEdit, IsLengthFor, RunsLine, RunsOnFile, RunsWords, StopsOrEnds}
 use Rattle.qcow2_session.specs.Commands.Running.{AfterHeader, EndsAndFlushes, FindsHeader}
 use Rattle.qcow2_session.specs.Commands.Verdict.{status_of_verdict}
 use Rattle.qcow2_session.specs.Commands.Words.{Word, WordList}

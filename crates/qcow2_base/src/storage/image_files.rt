@@ -14,9 +14,10 @@ use std::rt::Files;
 ///
 /// An implementor says what is known of the file of each path: nothing, where it opens files of the system. A
 /// file whose bytes are known is a regular one. What is written to an open file is known of its path once it
-/// is closed here. An open file can't be dropped: its type asks for no `Drop`, so who opens one closes it.
+/// is closed here. Who is generic over these can't drop an open file, as its type asks for no `Drop`, and has
+/// to close it.
 ///
-/// Two paths may be names of one file. Then a call for the one says the same of the other.
+/// Two paths may be names of one file. Then a call for the one may change what is known of the other too.
 pub trait ImageFiles {
     /// An open file.
     type Image: ImageFile;
@@ -30,13 +31,12 @@ pub trait ImageFiles {
         ensures fault { IsOkUnless result Fault.Storage }
         ensures opens { OpensImage Self.Image.content result path.now (file_at self.old) (file_at self.new) };
 
-    /// Closes what `open_image` returned for this path. From then on the path's file has its bytes.
+    /// Closes an open file by a path. From then on the path's file has its bytes.
     fn close_image(&mut self, path: &str, image: FileStorage<Self::Image>)
         ensures { ClosesImage Self.Image.content image path.now (file_at self.old) (file_at self.new) };
 
-    /// How long the file of a path is, in bytes, or `None` where it is no regular file, as a block device. If
-    /// it is open and was written, that isn't known yet. Changes no byte. Returns the storage fault whatever
-    /// the cause.
+    /// How long the file of a path is, in bytes, or `None` where it is no regular file, as a block device. It
+    /// isn't asked for while that is open. Changes no byte. Returns the storage fault whatever the cause.
     fn image_len(&mut self, path: &str) -> Result<Option<u64>, Fault>
         ensures fault { IsOkUnless result Fault.Storage }
         ensures len { MeasuresImage result path.now (file_at self.old) (file_at self.new) };

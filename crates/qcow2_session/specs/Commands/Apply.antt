@@ -8,6 +8,7 @@ use Rattle.std.specs.Str.Parse.{digits_value}
 use Rattle.qcow2_base.specs.Storage.{Image, OnImage, OnImages, StorageState}
 use Rattle.qcow2_base.specs.declared.fault.Fault.{Fault}
 use Rattle.qcow2_base.specs.declared.fault.Fault.TheVariants.{NoMemory}
+use Rattle.qcow2_check.specs.Failures.{ReportsFailures}
 use Rattle.qcow2_edits.specs.Edits.{cluster_numbers}
 use Rattle.qcow2_metadata.specs.Header.{HeaderRecord}
 use Rattle.qcow2_metadata.specs.Results.{IsFromOutside}
@@ -144,10 +145,12 @@ abbrev pub EndsEdits : ApplyForm → HeaderRecord → List GuestEdit → Result 
 EndsEdits Make header edits done old new = (left : HeaderRecord) × OnImages old new (EditsDisk header left edits done)
 EndsEdits Plan header edits done old new = OnImage old (PlansEdits header edits done)
 
--- how a run of edits of a disk ends, by its form: they were made or planned, or refused, and this was printed
+-- how a run of edits of a disk ends, by its form: they were made or planned, or refused, by the storage fault exactly where a
+-- call of the image failed, and this was printed
 abbrev pub EndsApply : {A O : Type 0} → ApplyForm → List DiskEdit → HeaderRecord → Run A O → Type 0
 EndsApply form edits header run = RunsOut run ⊎ ((done : Result ChangedClusters Fault)
-    × EndsEdits form header (guest_edits header edits) done run.old run.new × PrintsClusters done run)
+    × EndsEdits form header (guest_edits header edits) done run.old run.new
+    × ReportsFailures done run.old run.new × PrintsClusters done run)
 
 -- the facts of the command `apply`
 abbrev pub apply_facts : ApplyForm → List DiskEdit → CommandFacts

@@ -2,10 +2,12 @@
 use Rattle.std.specs.Prelude.{◌≡◌, ◌⊎◌, ℕ, ◌==◌, ◌++◌, ◌||◌, if◌then◌else◌, List, [], ◌∷◌, Option, Some, None, bytes_eq, codes, flat_map}
 use Rattle.std.specs.Io.KnownBytes.{Appends}
 use Rattle.std.specs.List.{before_first, range_with_len}
+use Rattle.qcow2_base.specs.declared.fault.Fault.TheVariants.{Storage}
 use Rattle.qcow2_help.specs.CommandTexts.{command_text, commands_text, version_text}
 use Rattle.qcow2_help.specs.FaultTexts.{fault_text}
 use Rattle.qcow2_help.specs.declared.faults.TheConstants.{FAULT_COUNT}
 use Rattle.qcow2_session.specs.Commands.Printing.{AppendsPart, OutputBytes}
+use Rattle.qcow2_session.specs.Commands.Report.{ReportsFault}
 use Rattle.qcow2_session.specs.Commands.Words.{WordList, word_number}
 use Rattle.qcow2_session.specs.declared.commands.help.HelpText.{HelpText}
 use Rattle.qcow2_session.specs.declared.commands.help.HelpText.TheVariants as help
@@ -63,6 +65,8 @@ asked_text (name ∷ arguments) =
     else if bytes_eq name (codes "version") || bytes_eq name (codes "--version") then text_alone version_text arguments
     else None
 
--- a text was asked for: it was printed, and the status is 0, or the output failed and has a beginning of it, and it is 1
-abbrev pub PrintsAsked : ℕ → List ℕ → OutputBytes → OutputBytes → Type 0
-PrintsAsked status text old new = ((status ≡ 0) × Appends old new text) ⊎ ((status ≡ 1) × AppendsPart old new text)
+-- a text was asked for: it was printed, and the status is 0, or the output failed and has a beginning of it, which was
+-- reported. `told` and `telling` are what standard error had before and has now, if known
+abbrev pub PrintsAsked : ℕ → List ℕ → OutputBytes → OutputBytes → OutputBytes → OutputBytes → Type 0
+PrintsAsked status text old new told telling = ((status ≡ 0) × Appends old new text)
+    ⊎ (ReportsFault Storage status told telling × AppendsPart old new text)

@@ -13,6 +13,10 @@ fault_line fault = codes "qmeta: fault " ++ decimal (fault_number fault) ++ code
 abbrev pub usage_line : List ℕ
 usage_line = codes "usage: qmeta COMMAND IMAGE ARGUMENTS\n"
 
+-- a fault was reported: by the status 1, and by its line on standard error, or a beginning of that
+abbrev pub ReportsFault : Fault → ℕ → OutputBytes → OutputBytes → Type 0
+ReportsFault fault status told telling = (status ≡ 1) × AppendsPart told telling (fault_line fault)
+
 -- what a run of the program with this status wrote to standard error: the line of a fault, how the program is called, or a
 -- beginning of these; nothing after any other status
 pub record Reports {E : Type 0} (status : ℕ) (contents : E → OutputBytes) (old new : E) : Type 0 where

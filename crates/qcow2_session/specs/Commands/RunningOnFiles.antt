@@ -9,8 +9,8 @@ use Rattle.qcow2_base.specs.declared.fault.Fault.TheVariants.{BadEdit, NoMemory,
 use Rattle.qcow2_metadata.specs.Header.{HeaderRecord, uses_external_data}
 use Rattle.qcow2_session.specs.Commands.{facts_of}
 use Rattle.qcow2_session.specs.Commands.Apply.{first_unfit_in_file}
-use Rattle.qcow2_session.specs.Commands.Printing.{AppendsPart, OutputBytes, Run}
-use Rattle.qcow2_session.specs.Commands.Report.{fault_line}
+use Rattle.qcow2_session.specs.Commands.Printing.{OutputBytes, Run}
+use Rattle.qcow2_session.specs.Commands.Report.{ReportsFault}
 use Rattle.qcow2_session.specs.Commands.Running.{AfterHeader, EndsAndFlushes}
 use Rattle.qcow2_session.specs.Commands.Verdict.{status_of_verdict}
 use Rattle.qcow2_session.specs.Commands.Words.{Word}
@@ -25,7 +25,7 @@ first_far (Apply form edits) header len =
     if uses_external_data header then None else first_unfit_in_file len header edits
 first_far _ header _ = None
 
--- all edits of a command fit the disk and the image's file, where that is known
+-- where the file is known, none of a command's edits is such a one
 abbrev pub AreNear : FileContent → Command → HeaderRecord → Type 0
 AreNear file command header = OnFile file (first_far command header file.len ≡ None)
 
@@ -58,8 +58,8 @@ abbrev pub StopsOrEnds : {O : Type 0} → FileContent → Command → HeaderReco
 StopsOrEnds file command header run = StopsBefore file command header run
     ⊎ (AreNear file command header × EndsAndFlushes (facts_of command) header run)
 
--- a run of a command over a file that was `old`, which is `new` now: the file could not be measured or opened, or the command
--- ran over the image in it, and what it left of that is in the file
+-- a run of a command over a file that was `old`, which is `new` now: the file could not be measured or opened, or its header
+-- was looked for, and what the run left of the image is in the file
 abbrev pub RunsOnFile : {O : Type 0} → Command → PathFile → PathFile → Result Verdict Fault → (O → OutputBytes) → O → O → Type 0
 RunsOnFile command old new answer contents before after =
     ((answer ≡ Err Storage) × (new.content ≡ old.content) × OnFile old.content (0 < new.failures) × (after ≡ before))
@@ -73,10 +73,6 @@ RunsOnFile command old new answer contents before after =
       after = after;
     }))
 
--- a fault was reported: by the status 1, and by its line on standard error, or a beginning of that
-abbrev pub ReportsFault : Fault → ℕ → OutputBytes → OutputBytes → Type 0
-ReportsFault fault status told telling = (status ≡ 1) × AppendsPart told telling (fault_line fault)
-
 -- a line of words that asks for a command ended with this status. Memory ran out for its words, with nothing printed or
 -- changed, or the command ran over a file, and its fault was reported. `told` and `telling` are what standard error had before
 -- and has now, if known
@@ -88,7 +84,7 @@ pub record RunsLine {O : Type 0} (command : Command) (old new : PathFile) (statu
   pub verdict : (facts_of command).has_verdict ≡ false → status ≤ 1
 
 -- a line of words, which may ask for a command over the file of a path, ended with this status. Only that file may have
--- changed, and none if it asks for no command
+-- changed, by whatever name, and none if it asks for no command
 abbrev pub RunsWords : {O : Type 0} → Option Command → Word → (Word → PathFile) → (Word → PathFile) → ℕ → (O → OutputBytes) → O → O → OutputBytes → OutputBytes → Type 0
 RunsWords None path old new status contents before after told telling = new ≡ old
 RunsWords (Some command) path old new status contents before after told telling =

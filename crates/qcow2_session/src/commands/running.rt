@@ -49,8 +49,8 @@ use std::rt::Files;
 /// What the command finds goes to `out`, where lines before a fault stay. `help`, `explain` and `version`
 /// print a text there, and open no image; `explain` of an image goes on with lines on where in it the fault
 /// is. A fault is the line `qmeta: fault N` on `err`, wrong words are the usage line there. `out` is flushed
-/// after a command, `err` after a line on it. A failed write to `out` is the storage fault; one to `err`
-/// changes nothing. Only a command changes a file, and only that of its image.
+/// after a command that ran, `err` after a line on it. A failed write to `out` is the storage fault; one to
+/// `err` changes nothing. Only a command changes a file, and only that of its image.
 #[tactic(auto, using(crate::proofs::HelpLemmas::asked_is_no_command))]
 pub fn run_words<R: Files + ImageFiles + AllocGlobal, O: Write, E: Write>(
     rt: &mut R,
@@ -62,9 +62,11 @@ pub fn run_words<R: Files + ImageFiles + AllocGlobal, O: Write, E: Write>(
     ensures wrong_words { ((result ≡ 2) ↔ AskForNothing (map string_bytes words.now))
         × (result ≡ 2 → out.new ≡ out.old) }
     ensures text { IfSome (asked_text (map string_bytes words.now)) (λ text.
-        PrintsAsked result text (O.contents out.old) (O.contents out.new))
+        PrintsAsked result text (O.contents out.old) (O.contents out.new)
+        (E.contents err.old) (E.contents err.new))
         × IfSome (explained_text (map string_bytes words.now)) (λ text.
-        PrintsExplained result text (O.contents out.old) (O.contents out.new)) }
+        PrintsExplained result text (O.contents out.old) (O.contents out.new)
+        (E.contents err.old) (E.contents err.new)) }
     ensures reports { Reports result E.contents err.old err.new }
     ensures command { RunsWords (command_of (map string_bytes words.now))
         (image_name (map string_bytes words.now)) (R.file_at rt.old) (R.file_at rt.new) result
@@ -88,7 +90,8 @@ fn run_further<R: Files + ImageFiles + AllocGlobal, O: Write, E: Write>(
     ensures wrong_words { ((result ≡ 2) ↔ (command_of (map string_bytes words.now) ≡ None)
         × (explained_text (map string_bytes words.now) ≡ None)) × (result ≡ 2 → out.new ≡ out.old) }
     ensures explained { IfSome (explained_text (map string_bytes words.now)) (λ text.
-        PrintsExplained result text (O.contents out.old) (O.contents out.new)) }
+        PrintsExplained result text (O.contents out.old) (O.contents out.new)
+        (E.contents err.old) (E.contents err.new)) }
     ensures reports { Reports result E.contents err.old err.new }
     ensures command { RunsWords (command_of (map string_bytes words.now))
         (image_name (map string_bytes words.now)) (R.file_at rt.old) (R.file_at rt.new) result
@@ -107,7 +110,8 @@ fn explain<R: Files + ImageFiles + AllocGlobal, O: Write, E: Write>(
     out: &mut O,
     err: &mut E,
 ) -> u8
-    ensures text { PrintsExplained result question.now.text.now (O.contents out.old) (O.contents out.new) }
+    ensures text { PrintsExplained result question.now.text.now (O.contents out.old) (O.contents out.new)
+        (E.contents err.old) (E.contents err.new) }
     ensures reports { Reports result E.contents err.old err.new }
 {
     match question.answer(rt) {
@@ -118,7 +122,8 @@ fn explain<R: Files + ImageFiles + AllocGlobal, O: Write, E: Write>(
 
 // Prints a text, and returns the status.
 fn print_answer<O: Write, E: Write>(text: &str, out: &mut O, err: &mut E) -> u8
-    ensures text { PrintsAsked result text.now (O.contents out.old) (O.contents out.new) }
+    ensures text { PrintsAsked result text.now (O.contents out.old) (O.contents out.new)
+        (E.contents err.old) (E.contents err.new) }
     ensures reports { Reports result E.contents err.old err.new }
 {
     let printed = print(text.as_bytes(), out);
@@ -127,7 +132,8 @@ fn print_answer<O: Write, E: Write>(text: &str, out: &mut O, err: &mut E) -> u8
 
 // Prints a text that words ask for, and returns the status.
 fn print_asked<O: Write, E: Write>(text: HelpText, out: &mut O, err: &mut E) -> u8
-    ensures text { PrintsAsked result (text_of text) (O.contents out.old) (O.contents out.new) }
+    ensures text { PrintsAsked result (text_of text) (O.contents out.old) (O.contents out.new)
+        (E.contents err.old) (E.contents err.new) }
     ensures reports { Reports result E.contents err.old err.new }
 {
     let printed = text.print(out);
@@ -198,9 +204,9 @@ fn status_of<E: Write>(ran: Result<Verdict, Fault>, err: &mut E) -> u8
 ///
 /// Returns 34 where the file can't be opened, or for `apply` its length can't be had; 35 where memory runs
 /// out for the pages. `apply` returns 32 and the position of the first edit that maps a cluster past the end
-/// of the image's file, where that is a regular file, or that doesn't fit the disk. After these nothing is
-/// printed, and the file is as it was, but for what the load of the header wrote. Else it returns what `run`
-/// does, and 34 where the flush fails. No other file changes.
+/// of the image's file, where that is a regular one that has the data, or that doesn't fit the disk. After
+/// these nothing is printed, and the file is as it was, but for what the load of the header wrote. Else it
+/// returns what `run` does, and 34 where the flush fails. No other file changes, unless it is the same one.
 pub fn run_on_file<R: ImageFiles, O: Write>(
     alloc: Global,
     files: &mut R,

@@ -6,9 +6,10 @@ use Rattle.qcow2_session.proofs.commands.running.print_answer.Goals as goal
 
 pub returns-clause-text : goal.returns-clause-text
 returns-clause-text g c =
-    subst (λ (bytes : List ℕ). PrintsAsked c.status_of.result bytes (g.O.Write.contents c.args.out.now) (g.O.Write.contents c.flush.new.self)) c.as_bytes.ensures.value
-    (asked_printed c.print-printed.result c.fine.result c.after_flush.result c.flush.result c.status_of.result _ (g.O.Write.contents c.print-printed.new.writer) _ _
-    c.print-printed.ensures c.flush.ensures.bytes c.fine.ensures.answer c.after_flush.ensures.own c.after_flush.ensures.flush c.status_of.ensures.status)
+    subst (λ (bytes : List ℕ). PrintsAsked c.status_of.result bytes (g.O.Write.contents c.args.out.now) (g.O.Write.contents c.flush.new.self)
+    (g.E.Write.contents c.args.err.now) (g.E.Write.contents c.status_of.new.err)) c.as_bytes.ensures.value
+    (asked_printed c.print-printed.result c.fine.result c.after_flush.result c.flush.result c.status_of.result _ (g.O.Write.contents c.print-printed.new.writer) _ _ _ _ _
+    c.print-printed.ensures c.flush.ensures.bytes c.fine.ensures.answer c.after_flush.ensures.own c.after_flush.ensures.flush c.status_of.ensures.status c.status_of.ensures.line)
 
 pub returns-clause-reports : goal.returns-clause-reports
 returns-clause-reports g c = reports-run _ _ _ _ _ c.status_of.ensures.status c.status_of.ensures.line

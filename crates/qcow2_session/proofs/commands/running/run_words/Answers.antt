@@ -19,4 +19,4 @@ returns-in-Some-clause-text g c =
     (rw asked c.print_asked.ensures.text, IfSome-none _ (explained_text words) (asked_is_not_explained words (text_of c.in-Some.text) asked))
 
 pub returns-in-Some-clause-status : goal.returns-in-Some-clause-status
-returns-in-Some-clause-status g c = asked_status _ _ _ _ c.print_asked.ensures.text
+returns-in-Some-clause-status g c = asked_status _ _ _ _ _ _ c.print_asked.ensures.text
