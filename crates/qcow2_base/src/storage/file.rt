@@ -31,7 +31,7 @@ impl<F> FileStorage<F> {
         FileStorage { file, failures: 0 }
     }
 
-    /// How many calls have failed so far.
+    /// How many calls have failed so far, modulo 2^64.
     pub fn failures(&self) -> u64
         ensures { result ≡ failures_of self.now }
     {

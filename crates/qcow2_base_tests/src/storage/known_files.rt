@@ -68,7 +68,7 @@ fn a_write_that_a_file_has_no_room_for_is_counted(rt: HostRuntime) -> Result<(),
     check_failed_write(rt.alloc(), &mut storage, &[9; 2], LIMIT - 2, 1)?;
     check_bytes(rt.alloc(), &mut storage, 0, &[1, 2, 3, 0])?;
     same(storage.sync(), Ok(()), "a sync")?;
-    check_failures(rt.alloc(), &storage, 1)
+    same(storage.failures(), 1, "failed calls")
 }
 
 #[test]
