@@ -7,8 +7,6 @@ use std::alloc::Global;
 use std::fs;
 use std::test::Fail;
 
-const LAST: u64 = u64::MAX;
-
 // A line, and the lock that it is of: its kind, both parts of its device, its inode and its bytes.
 #[derive(Clone, Copy, Debug)]
 struct Listed {
@@ -27,16 +25,16 @@ const LISTED: &[Listed] = rows! { Listed:
     { line: "1: POSIX  ADVISORY  READ  5433 08:01:7864448 128 128",
         kind: LockKind::Bytes, device: (8, 1), inode: 7864448, bytes: (128, 128) },
     { line: "2: FLOCK  ADVISORY  WRITE 1568 00:2f:32388 0 EOF",
-        kind: LockKind::Whole, device: (0, 47), inode: 32388, bytes: (0, LAST) },
+        kind: LockKind::Whole, device: (0, 47), inode: 32388, bytes: (0, u64::MAX) },
     // one that is waited for
     { line: "17: -> POSIX  ADVISORY  WRITE 0 103:10203:5 203 EOF",
-        kind: LockKind::Bytes, device: (259, 66051), inode: 5, bytes: (203, LAST) },
+        kind: LockKind::Bytes, device: (259, 66051), inode: 5, bytes: (203, u64::MAX) },
     // the list of a descriptor has it after a tab
     { line: "\t1: FLOCK  ADVISORY  WRITE 16309 00:27:257 0 EOF",
-        kind: LockKind::Whole, device: (0, 39), inode: 257, bytes: (0, LAST) },
+        kind: LockKind::Whole, device: (0, 39), inode: 257, bytes: (0, u64::MAX) },
     // the largest numbers
     { line: "1: OFDLCK ADVISORY  WRITE -1 fff:fffff:18446744073709551615 0 9223372036854775806",
-        kind: LockKind::Bytes, device: (4095, 1048575), inode: LAST, bytes: (0, 9223372036854775806) },
+        kind: LockKind::Bytes, device: (4095, 1048575), inode: u64::MAX, bytes: (0, 9223372036854775806) },
 };
 
 fn check_listed(_alloc: Global, row: Listed) -> Result<(), Fail> {
@@ -90,7 +88,7 @@ fn any_other_line_is_no_lock() -> Result<(), Fail> {
 const RANGES: &[(u64, u64, bool)] = rows! {
     (0, 100, false), (100, 101, true), (101, 101, true), (102, 102, false), (103, 103, true),
     (104, 200, false), (200, 200, false), (201, 201, true), (202, 202, false), (203, 203, true),
-    (204, LAST, false), (102, 202, true), (0, LAST, true), (101, 100, false),
+    (204, u64::MAX, false), (102, 202, true), (0, u64::MAX, true), (101, 100, false),
 };
 
 const FILE: FileId = FileId {
@@ -128,19 +126,15 @@ const OTHER_FILES: &[FileId] = rows! { FileId:
 #[test]
 fn a_lock_bars_writing_to_its_own_file() -> Result<(), Fail> {
     for file in OTHER_FILES {
-        same(bars(LockKind::Bytes, (0, LAST), *file), false, *file)?;
+        same(bars(LockKind::Bytes, (0, u64::MAX), *file), false, *file)?;
     }
     Ok(())
 }
 
-fn refusal(rt: &HostRuntime, path: &str) -> Option<Fault> {
-    hold_alone(rt, path).err()
-}
-
 fn check_held(rt: &HostRuntime, path: &str, other: &str) -> Result<(), Fail> {
     let _held = hold_alone(rt, path)?;
-    same(refusal(rt, path), Some(Fault::InUse), "held")?;
-    same(refusal(rt, other), None, "another file")
+    same(hold_alone(rt, path).err(), Some(Fault::InUse), "held")?;
+    same(hold_alone(rt, other).err(), None, "another file")
 }
 
 #[test]
@@ -148,7 +142,11 @@ fn an_image_is_held_by_one_alone(rt: HostRuntime) -> Result<(), Fail> {
     let file = temporary_file(&rt, "held", &[1, 2, 3])?;
     let other = temporary_file(&rt, "not-held", &[])?;
     check_held(&rt, file.path.as_str(), other.path.as_str())?;
-    same(refusal(&rt, file.path.as_str()), None, "given back")?;
+    same(
+        hold_alone(&rt, file.path.as_str()).err(),
+        None,
+        "given back",
+    )?;
     file_holds(&rt, file.path.as_str(), &[1, 2, 3], "as it was")
 }
 
@@ -156,7 +154,7 @@ fn an_image_is_held_by_one_alone(rt: HostRuntime) -> Result<(), Fail> {
 fn only_a_file_that_is_there_is_held(rt: HostRuntime) -> Result<(), Fail> {
     let path = temporary_path(&rt, "not-there")?;
     for name in [path.as_str(), ".", ""] {
-        same(refusal(&rt, name), Some(Fault::Storage), name)?;
+        same(hold_alone(&rt, name).err(), Some(Fault::Storage), name)?;
     }
     same(fs::exists(&rt, path.as_str())?, false, path)
 }

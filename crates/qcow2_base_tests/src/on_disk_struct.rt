@@ -280,17 +280,16 @@ fn check_left<T: OnDiskStruct + Copy + Debug + PartialEq>(
     same_bytes(part_of(&buffer, start, FILLED.len())?, past, (call, value))
 }
 
-const REFUSED: Result<(), Fault> = Err(Fault::WrongLength);
-
 /// That each call refuses to store the value into a buffer that is `len` long, leaves it, and
 /// refuses to load from it.
 fn check_refusals<T: OnDiskStruct + Copy + Debug + PartialEq>(
     value: T,
     len: usize,
 ) -> Result<(), Fail> {
-    check_left(Call::LittleEndian, value, &[], len, REFUSED)?;
-    check_left(Call::BigEndian, value, &[], len, REFUSED)?;
-    check_left(Call::Native, value, &[], len, REFUSED)
+    let refused = Err(Fault::WrongLength);
+    check_left(Call::LittleEndian, value, &[], len, refused)?;
+    check_left(Call::BigEndian, value, &[], len, refused)?;
+    check_left(Call::Native, value, &[], len, refused)
 }
 
 /// That the calls store the value as these bytes, need as many bytes, and leave `spare` that follow.

@@ -16,6 +16,9 @@ use std::test::Fail;
 // The greatest end that a read or a write may have.
 pub(crate) const LIMIT: u64 = 1 << 56;
 
+// How many bytes a mebibyte has.
+pub(crate) const MIB: usize = 1 << 20;
+
 fn memory(alloc: Global, bytes: &[u8]) -> Result<MemStorage, Fail> {
     Ok(MemStorage::new(Vec::from_slice(alloc, bytes)?))
 }

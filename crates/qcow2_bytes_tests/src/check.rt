@@ -1,13 +1,12 @@
 //! What a check finds of a whole image in memory: clusters, as many as there is room for, and totals.
 
 use crate::calls::image_check;
+use crate::entries::COPIED;
 use qcow2_base::{Fault, MemStorage, UncountedPart};
 use qcow2_bytes::{CheckTotals, FindingFields};
 use qcow2_testing::{each, image_with, part_of, put_all, rows, same};
 use std::alloc::Global;
 use std::test::Fail;
-
-const COPIED: u64 = 1 << 63;
 
 // Numbers of eight bytes at places.
 type Numbers = &'static [(u64, u64)];

@@ -7,7 +7,7 @@ use qcow2_testing::{each, image_with, part_of, rows, same};
 use std::alloc::Global;
 use std::test::Fail;
 
-const NONE: NameRange = NameRange {
+pub(crate) const NONE: NameRange = NameRange {
     offset: 0,
     length: 0,
 };

@@ -2,13 +2,12 @@
 //! offset on, and those before a fault.
 
 use crate::calls::image_extents;
+use crate::entries::COPIED;
 use qcow2_base::{Fault, MemStorage};
 use qcow2_bytes::{CutShort, ExtentFields};
 use qcow2_testing::{each, image_with, part_of, put_all, rows, same};
 use std::alloc::Global;
 use std::test::Fail;
-
-const COPIED: u64 = 1 << 63;
 
 // Numbers of eight bytes at places.
 type Numbers = &'static [(u64, u64)];

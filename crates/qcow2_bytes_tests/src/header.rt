@@ -1,6 +1,7 @@
 //! What the bytes of a first cluster say.
 
 use crate::calls::{header_bytes, read_header};
+use crate::entries::NONE;
 use qcow2_base::{Fault, MemStorage};
 use qcow2_bytes::{HeaderFields, NameRange};
 use qcow2_testing::{all_same, each, image_with, part_of, put_all, put_bytes, same};
@@ -86,11 +87,6 @@ fn check_refused(alloc: Global, row: Refused) -> Result<(), Fail> {
 fn a_header_is_refused_by_its_first_fault(rt: HostRuntime) -> Result<(), Fail> {
     each(rt.alloc(), &REFUSED, check_refused)
 }
-
-const NONE: NameRange = NameRange {
-    offset: 0,
-    length: 0,
-};
 
 // Each field has a number of its own.
 const FILLED: Numbers = &[

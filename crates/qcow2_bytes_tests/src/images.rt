@@ -1,12 +1,11 @@
 //! What a whole image in memory says.
 
 use crate::calls::image_lookup;
+use crate::entries::COPIED;
 use qcow2_base::{Fault, MemStorage};
 use qcow2_testing::{each, image_with, part_of, rows, same};
 use std::alloc::Global;
 use std::test::Fail;
-
-const COPIED: u64 = 1 << 63;
 
 // Clusters of 512 bytes: the header, an L1 table of one entry, its L2 table, and one of data.
 fn image(alloc: Global) -> Result<MemStorage, Fault> {

@@ -43,11 +43,10 @@ const LAST: &[Counters] = rows! { Counters:
     { size: 1 << 21, order: 6, first: 262_143, counters: &[0x0123_4567_89ab_cdef] },
 };
 
-const NUMBER: u64 = 0x0123_4567_89ab_cdef;
-
 fn check_counters(alloc: Global, row: Counters) -> Result<(), Fail> {
     let last = (row.size as u64).saturating_sub(8);
-    let image = image_with(alloc, row.size, &[(0, NUMBER), (last, NUMBER)])?;
+    let number = 0x0123_4567_89ab_cdef;
+    let image = image_with(alloc, row.size, &[(0, number), (last, number)])?;
     let mut found = vec![in alloc; 7; row.counters.len()]?;
     let read = read_refcounts(image.bytes(), row.order, row.first, found.as_mut_slice());
     same((read, found.as_slice()), (Ok(()), row.counters), row)

@@ -78,6 +78,10 @@ const ROWS: &[Row] = rows! {
     Row { name: "zeros without a cluster, and those of cluster 0 of an external data file",
         changes: &[(72, 4), (1048, 1), (1056, COPIED + 1), (1064, 1)],
         parts: &[(1536, Absent), (512, Zeros), allocated!(512, 0), (512, Zeros), (29696, Absent)], ..ROW },
+};
+
+// Disks of more than one L2 table, damaged ones, and large ones.
+const OF_TABLES: &[Row] = rows! {
     Row { name: "data that goes on in the next L2 table",
         changes: &[(24, 65536), (32, 2), (520, 0x600), (1048, 0), (1528, 0xa00), (1536, 0xc00)],
         parts: &[(32256, Absent), data!(1024, 0xa00), (32256, Absent)], ..ROW },
@@ -114,7 +118,8 @@ const RESERVED: Option<Fault> = Some(Fault::EntryReserved);
 
 #[test]
 fn each_disk_is_told_as_extents(rt: HostRuntime) -> Result<(), Fail> {
-    each(rt.alloc(), ROWS, check_row)
+    each(rt.alloc(), ROWS, check_row)?;
+    each(rt.alloc(), OF_TABLES, check_row)
 }
 
 // Reports the extents of the image of a row, of which no byte changes.

@@ -71,7 +71,10 @@ const ROWS: &[Row] = rows! {
         offsets: &[(1543, Data(0, true))], ..ROW },
     Row { name: "compressed", changes: &[(1048, 0x6000_0000_0000_0601)],
         offsets: &[(1543, Compressed(0x601, 1023))], ..ROW },
-    // damaged images: the fault is that of the first bad part
+};
+
+// Damaged images: the fault is that of the first bad part.
+const DAMAGED: &[Row] = rows! {
     Row { name: "no qcow2 image", changes: &[(0, 0x5146_49fa_0000_0003), (512, 1)],
         offsets: &[(1543, Refused(Fault::NotQcow2))], ..ROW },
     Row { name: "an unknown feature", changes: &[(72, 8)], offsets: &[(0, Refused(Fault::Incompatible(8)))],
@@ -117,7 +120,8 @@ const CUTS: &[(usize, usize, Answer)] = &[
 
 #[test]
 fn each_offset_reads_as_the_image_says(rt: HostRuntime) -> Result<(), Fail> {
-    each(rt.alloc(), ROWS, check_row)
+    each(rt.alloc(), ROWS, check_row)?;
+    each(rt.alloc(), DAMAGED, check_row)
 }
 
 fn check_row(alloc: Global, row: Row) -> Result<(), Fail> {

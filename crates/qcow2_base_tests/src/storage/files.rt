@@ -197,15 +197,12 @@ fn a_write_fails_where_one_call_of_the_file_does(rt: HostRuntime) -> Result<(), 
     Ok(())
 }
 
-fn check_early_end(rt: &HostRuntime, path: &str, end: u64) -> Result<(), Fail> {
-    check_failed_read(rt.alloc(), &mut faulty(rt, path, (None, 2, end))?, 1)
-}
-
 #[test]
 fn a_file_that_ends_before_its_length_is_no_zeros(rt: HostRuntime) -> Result<(), Fail> {
     let file = temporary_file(&rt, "early-end", &[1, 2, 3, 4, 5])?;
     for end in 0..5 {
-        check_early_end(&rt, file.path.as_str(), end)?;
+        let mut storage = faulty(&rt, file.path.as_str(), (None, 2, end))?;
+        check_failed_read(rt.alloc(), &mut storage, 1)?;
     }
     Ok(())
 }

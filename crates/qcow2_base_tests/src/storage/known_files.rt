@@ -1,14 +1,12 @@
 //! Storages over files in memory, whose bytes are known.
 
 use super::{
-    LIMIT, WRITES, Written, check_bytes, check_failed_write, check_failures, check_read, write,
+    LIMIT, MIB, WRITES, Written, check_bytes, check_failed_write, check_failures, check_read, write,
 };
 use qcow2_base::{FileStorage, ImageFiles, Storage};
 use qcow2_testing::{KnownFile, KnownFiles, same};
 use std::alloc::Global;
 use std::test::Fail;
-
-const MIB: usize = 1 << 20;
 
 // How many bytes a file reads or writes at a time.
 const STEPS: &[usize] = &[0, 1, 2, 3, 512, usize::MAX];

@@ -6,8 +6,6 @@ use qcow2_testing::{file_holds, part_of, temporary_file};
 use std::alloc::{AllocError, Global};
 use std::test::Fail;
 
-const MIB: usize = 1 << 20;
-
 // The bytes of a file, other ones from `start` to `end` than before and after. They repeat after 113
 // bytes, which divides no length that a buffer may have.
 fn image(alloc: Global, len: usize, start: usize, end: usize) -> Result<Vec<u8>, AllocError> {

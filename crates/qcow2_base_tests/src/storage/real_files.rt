@@ -9,24 +9,22 @@ use std::fs::OpenOptions;
 use std::io::Write;
 use std::test::Fail;
 
-// More than 2^40.
-const FAR: u64 = 3 << 40;
-
 // A file system that has no room for such a length refuses the write, which is counted then.
 #[test]
 fn a_hole_reads_as_zeros_and_what_lies_past_it_as_written(rt: HostRuntime) -> Result<(), Fail> {
+    let far: u64 = 3 << 40;
     let file = temporary_file(&rt, "hole", &[1, 2, 3])?;
     let mut storage = open(&rt, file.path.as_str(), true)?;
-    if write(&mut storage, &[7, 8], FAR).is_err() {
+    if write(&mut storage, &[7, 8], far).is_err() {
         check_failures(rt.alloc(), &storage, 1)?;
         return file_holds(&rt, file.path.as_str(), &[1, 2, 3], "refused");
     }
     check_bytes(rt.alloc(), &mut storage, 1, &[2, 3, 0, 0])?;
-    check_bytes(rt.alloc(), &mut storage, FAR / 2, &[0; 4])?;
-    check_bytes(rt.alloc(), &mut storage, FAR - 2, &[0, 0, 7, 8, 0, 0])?;
+    check_bytes(rt.alloc(), &mut storage, far / 2, &[0; 4])?;
+    check_bytes(rt.alloc(), &mut storage, far - 2, &[0, 0, 7, 8, 0, 0])?;
     same(
         fs::metadata(&rt, file.path.as_str())?.len(),
-        FAR + 2,
+        far + 2,
         "its length",
     )
 }
