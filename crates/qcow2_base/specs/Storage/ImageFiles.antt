@@ -5,8 +5,8 @@ use Rattle.qcow2_base.specs.Storage.ImageFile.{FileContent, OnFile, unknown_cont
 use Rattle.qcow2_base.specs.declared.fault.Fault.{Fault}
 use Rattle.qcow2_base.specs.declared.storage.file.FileStorage.{FileStorage}
 
--- what is known of the file of a path: its content, and how many calls for it failed that the last who opened it made, or who
--- could not
+-- what is known of the file of a path: its content, and how many calls had failed when it was last closed, or could not be
+-- opened or measured
 pub record PathFile : Type 0 where
   pub content : FileContent
   pub failures : ℕ
