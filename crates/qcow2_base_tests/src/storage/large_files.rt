@@ -1,7 +1,7 @@
 //! Reads and writes of more bytes than any buffer on their way may have.
 
 use super::files::open;
-use super::{check_bytes, write};
+use super::{MIB, check_bytes, write};
 use qcow2_testing::{file_holds, part_of, temporary_file};
 use std::alloc::{AllocError, Global};
 use std::test::Fail;
