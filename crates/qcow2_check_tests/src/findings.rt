@@ -1,7 +1,7 @@
 //! What is found of an image's clusters, and which images are refused.
 
 use crate::sample_image::{
-    BLOCK, HEADER, L1_TABLE, L2_TABLE, Numbers, REFTABLE, findings_of, sample_image,
+    BLOCK, HEADER, L1_TABLE, L2_TABLE, NEXT_ENTRY, Numbers, REFTABLE, findings_of, sample_image,
 };
 use qcow2_base::{Fault, HostCluster, UncountedPart};
 use qcow2_check::Finding;
@@ -23,9 +23,7 @@ macro_rules! found {
     };
 }
 
-// Entry 4 of the L2 table, and entry 1 of the L1 table.
-const NEXT_ENTRY: u64 = L2_TABLE + 32;
-
+// Entry 1 of the L1 table.
 const NEXT_TABLE: u64 = L1_TABLE + 8;
 
 // The greatest offset of a cluster.

@@ -1,7 +1,8 @@
 //! Which entries of an image have a wrong copied flag.
 
 use crate::sample_image::{
-    BLOCK, COPIED, HEADER, L1_TABLE, L2_TABLE, Numbers, REFTABLE, flags_of, sample_image,
+    BLOCK, COPIED, HEADER, L1_TABLE, L2_TABLE, NEXT_ENTRY, Numbers, REFTABLE, flags_of,
+    sample_image,
 };
 use qcow2_base::{GuestOffset, HostCluster};
 use qcow2_check::{FlagPlace, WrongFlag};
@@ -38,10 +39,8 @@ macro_rules! wrong {
     };
 }
 
-// Entry 3 of the L2 table, which is that of the guest cluster at 1536, entry 4, and the last.
+// Entry 3 of the L2 table, which is that of the guest cluster at 1536, and the last.
 const DATA_ENTRY: u64 = L2_TABLE + 24;
-
-const NEXT_ENTRY: u64 = L2_TABLE + 32;
 
 const LAST_ENTRY: u64 = L2_TABLE + 504;
 

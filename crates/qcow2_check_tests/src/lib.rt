@@ -1,5 +1,5 @@
-//! Tests of what an image says of its own clusters: of counters, of findings, of wrong flags, and of all of
-//! them together.
+//! Tests of what an image says of its own clusters: of counters, of findings, of wrong flags, of all of them
+//! together, and of what each cluster is.
 #![tactic(auto)]
 
 #[cfg(test)]
@@ -10,6 +10,8 @@ mod counters;
 mod findings;
 #[cfg(test)]
 mod flags;
+#[cfg(test)]
+mod layout;
 #[cfg(test)]
 mod refused_calls;
 #[cfg(test)]

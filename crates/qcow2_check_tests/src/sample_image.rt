@@ -25,6 +25,9 @@ pub(crate) const BLOCK: u64 = 1536;
 
 pub(crate) const L2_TABLE: u64 = 2048;
 
+/// Entry 4 of the L2 table.
+pub(crate) const NEXT_ENTRY: u64 = L2_TABLE + 32;
+
 // Clusters of 512 bytes, an L1 table of two entries in cluster 1, the refcount table in cluster 2, its block
 // in cluster 3, with counters of 16 bits, and an L2 table in cluster 4. Guest cluster 3 is the data in
 // cluster 5. The six clusters have the counter 1.

@@ -1,8 +1,7 @@
 //! The squares of a picture, and which images have none.
 
-use crate::sample_image::{
-    BLOCK, HEADER, L2_TABLE, NEXT_ENTRY, Numbers, REFTABLE, sample_image, shapes_of_image,
-};
+use super::calls::shapes_of_image;
+use crate::sample_image::{BLOCK, HEADER, L2_TABLE, NEXT_ENTRY, Numbers, REFTABLE, sample_image};
 use qcow2_base::Fault;
 use qcow2_picture::Shape;
 use qcow2_testing::{each, rows, same};

@@ -1,7 +1,8 @@
 //! What the clusters of an image are, and which images are refused.
 
+use super::calls::runs_of;
 use crate::sample_image::{
-    BLOCK, HEADER, L1_TABLE, L2_TABLE, NEXT_ENTRY, Numbers, REFTABLE, runs_of, sample_image,
+    BLOCK, HEADER, L1_TABLE, L2_TABLE, NEXT_ENTRY, Numbers, REFTABLE, sample_image,
 };
 use qcow2_base::{Fault, GuestOffset, HostCluster, UncountedPart};
 use qcow2_layout::{Part, Run};

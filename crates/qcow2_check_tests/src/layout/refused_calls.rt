@@ -1,6 +1,7 @@
 //! What a refused call of the storage leaves of a layout.
 
-use crate::sample_image::{L2_TABLE, Numbers, REFTABLE, runs_of, sample_image, shapes_of_image};
+use super::calls::{runs_of, shapes_of_image};
+use crate::sample_image::{L2_TABLE, Numbers, REFTABLE, sample_image};
 use qcow2_base::Fault;
 use qcow2_testing::{recorded, same, same_bytes};
 use std::test::Fail;

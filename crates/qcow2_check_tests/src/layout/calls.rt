@@ -1,0 +1,44 @@
+//! The calls that are tested, without their clauses.
+
+use qcow2_base::{Fault, Storage};
+use qcow2_layout::{Layout, Run};
+use qcow2_metadata::Header;
+use qcow2_picture::{Shape, picture_of};
+use std::alloc::Global;
+
+/// All runs of an image, in order, the first hundred of them at most. Where a read is refused, the reader is
+/// called again.
+pub(super) fn runs_of<S: Storage>(alloc: Global, image: &mut S) -> Result<Vec<Run>, Fault> {
+    let header = Header::load(alloc, image, false)?;
+    let mut found = Vec::new(alloc);
+    read_runs(alloc, image, &header, &mut found)?;
+    Ok(found)
+}
+
+fn read_runs<S: Storage>(
+    alloc: Global,
+    image: &mut S,
+    header: &Header,
+    found: &mut Vec<Run>,
+) -> Result<(), Fault> {
+    let mut layout = Layout::new(alloc, image, header)?;
+    for _ in 0..100 {
+        match layout.next(image) {
+            Ok(Some(run)) => found.push(run)?,
+            Ok(None) => return Ok(()),
+            Err(Fault::Storage) => {}
+            Err(fault) => return Err(fault),
+        }
+    }
+    Ok(())
+}
+
+/// How many clusters a square of the picture of an image stands for, and its shapes.
+pub(super) fn shapes_of_image<S: Storage>(
+    alloc: Global,
+    image: &mut S,
+) -> Result<(u64, Vec<Shape>), Fault> {
+    let header = Header::load(alloc, image, false)?;
+    let picture = picture_of(alloc, image, &header)?;
+    Ok((picture.scale(), picture.shapes(alloc)?))
+}
