@@ -1,0 +1,13 @@
+//! Tests of headers, their features, and the text that they are read from and written as.
+
+mod features;
+mod fixtures;
+mod header_load;
+mod header_texts;
+mod header_update;
+mod header_write;
+mod names;
+mod new_headers;
+mod refused_calls;
+mod rich_header;
+mod writable_load;
