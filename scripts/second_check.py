@@ -45,7 +45,7 @@ class Tables:
         with open(path, "rb") as self.file:
             self.length = self.file.seek(0, 2)
             self.read_header()
-            if self.snapshots and not has_snapshots:
+            if (self.snapshots and not has_snapshots) or self.has_keys:
                 raise Refused(37)
             self.l1 = self.entries_at(self.l1_start, self.l1_entries, self.l1_entry)
             blocks = self.entries_at(self.reftable_start, self.reftable_clusters * self.cluster // 8, self.block_entry)
@@ -64,6 +64,8 @@ class Tables:
         self.version, self.cluster_bits, self.size = struct.unpack_from(">I12xIQ", header, 4)
         self.l1_entries, self.l1_start, self.reftable_start = struct.unpack_from(">IQQ", header, 36)
         self.reftable_clusters, self.snapshots = struct.unpack_from(">II", header, 56)
+        # 2 is LUKS, whose keys lie in clusters that no entry names
+        self.has_keys = struct.unpack_from(">I", header, 32)[0] > 1
         self.is_external = self.version > 2 and header[79] & 4 != 0
         self.has_autoclear = self.version > 2 and any(header[88:96])
         self.order = header[99] if self.version > 2 else 4

@@ -157,7 +157,7 @@ impl<'a> Findings<'a> {
     /// A reader of the findings of an image with this header, before the first of them. Reads its tables, and
     /// counts the uses of the first clusters.
     ///
-    /// Returns the first of these faults: 37 where the image has snapshots, bitmaps or an encryption header,
+    /// Returns the first of these faults: 37 where the image has snapshots, bitmaps or LUKS encryption,
     /// that of the L1 table, that of the refcount table, 21 where a refcount block would end past 2^56, or
     /// that of an L2 table. Changes no byte.
     pub fn new<S: Storage>(

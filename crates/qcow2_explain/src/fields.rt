@@ -8,10 +8,12 @@ use std::alloc::Global;
 use std::fmt;
 
 /// What fields are looked at for.
-#[derive(Clone, Copy, PartialEq, Eq)]
+#[derive(Clone, Copy)]
 pub(super) enum Topic {
     /// The fault of this number.
     Fault(u64),
+    /// Encryption with keys in clusters.
+    Encryption,
     /// The place and the length of the L1 table.
     L1Table,
     /// The place and the length of the refcount table.
@@ -119,6 +121,13 @@ const REFTABLE_CLUSTERS: Field = Field {
     form: Form::Count,
 };
 
+const CRYPT_METHOD: Field = Field {
+    name: "crypt_method",
+    offset: 32,
+    bytes: 4,
+    form: Form::Count,
+};
+
 const SNAPSHOTS: Field = Field {
     name: "nb_snapshots",
     offset: 60,
@@ -154,36 +163,31 @@ const HEADER_LENGTH: Field = Field {
     form: Form::Count,
 };
 
-// Which fields each topic is about.
-const FIELDS: &[(Topic, Field)] = &[
-    (Topic::Fault(1), MAGIC),
-    (Topic::Fault(2), VERSION),
-    (Topic::Fault(3), CLUSTER_BITS),
-    (Topic::Fault(4), HEADER_LENGTH),
-    (Topic::Fault(5), HEADER_LENGTH),
-    (Topic::Fault(5), CLUSTER_BITS),
-    (Topic::Fault(6), L1_OFFSET),
-    (Topic::Fault(6), CLUSTER_BITS),
-    (Topic::Fault(7), REFTABLE_OFFSET),
-    (Topic::Fault(7), CLUSTER_BITS),
-    (Topic::Fault(8), REFCOUNT_ORDER),
-    (Topic::Fault(9), BACKING_SIZE),
-    (Topic::Fault(10), BACKING_OFFSET),
-    (Topic::Fault(10), BACKING_SIZE),
-    (Topic::Fault(10), CLUSTER_BITS),
-    (Topic::Fault(11), BACKING_OFFSET),
-    (Topic::Fault(11), BACKING_SIZE),
-    (Topic::Fault(17), INCOMPATIBLE),
-    (Topic::Fault(24), AUTOCLEAR),
-    (Topic::Fault(24), BACKING_SIZE),
-    (Topic::Fault(27), VERSION),
-    (Topic::Fault(36), INCOMPATIBLE),
-    (Topic::Fault(37), SNAPSHOTS),
-    (Topic::L1Table, L1_SIZE),
-    (Topic::L1Table, L1_OFFSET),
-    (Topic::RefTable, REFTABLE_CLUSTERS),
-    (Topic::RefTable, REFTABLE_OFFSET),
-];
+// The fields that a topic is about.
+fn fields_about(topic: Topic) -> &'static [Field] {
+    match topic {
+        Topic::Fault(1) => &[MAGIC],
+        Topic::Fault(2) => &[VERSION],
+        Topic::Fault(3) => &[CLUSTER_BITS],
+        Topic::Fault(4) => &[HEADER_LENGTH],
+        Topic::Fault(5) => &[HEADER_LENGTH, CLUSTER_BITS],
+        Topic::Fault(6) => &[L1_OFFSET, CLUSTER_BITS],
+        Topic::Fault(7) => &[REFTABLE_OFFSET, CLUSTER_BITS],
+        Topic::Fault(8) => &[REFCOUNT_ORDER],
+        Topic::Fault(9) => &[BACKING_SIZE],
+        Topic::Fault(10) => &[BACKING_OFFSET, BACKING_SIZE, CLUSTER_BITS],
+        Topic::Fault(11) => &[BACKING_OFFSET, BACKING_SIZE],
+        Topic::Fault(17) => &[INCOMPATIBLE],
+        Topic::Fault(24) => &[AUTOCLEAR, BACKING_SIZE],
+        Topic::Fault(27) => &[VERSION],
+        Topic::Fault(36) => &[INCOMPATIBLE],
+        Topic::Fault(37) => &[SNAPSHOTS],
+        Topic::Fault(_) => &[],
+        Topic::Encryption => &[CRYPT_METHOD],
+        Topic::L1Table => &[L1_SIZE, L1_OFFSET],
+        Topic::RefTable => &[REFTABLE_CLUSTERS, REFTABLE_OFFSET],
+    }
+}
 
 /// The fields that a topic is about, with their values in the image. Changes no byte.
 pub(super) fn fields_of<S: Storage>(
@@ -194,11 +198,8 @@ pub(super) fn fields_of<S: Storage>(
     ensures unchanged { (S.state image.new).byte_at ≡ (S.state image.old).byte_at }
 {
     let mut places = Vec::new(alloc);
-    for row in FIELDS {
-        let (about, field) = *row;
-        if about == topic {
-            places.push(read_field(image, field)?)?;
-        }
+    for field in fields_about(topic) {
+        places.push(read_field(image, *field)?)?;
     }
     Ok(places)
 }

@@ -140,10 +140,23 @@ fn by_part<S: Storage>(
 ) -> Result<Option<Refusal>, Fault>
     ensures unchanged { (S.state image.new).byte_at ≡ (S.state image.old).byte_at }
 {
-    if part == UncountedPart::Snapshots {
-        return by_fields(alloc, image, Fault::Uncounted(part));
-    }
     let fault = Fault::Uncounted(part);
-    let places = extensions_of(alloc, image, 37)?;
+    let places = match part {
+        UncountedPart::Snapshots => fields_of(alloc, image, Topic::Fault(37))?,
+        UncountedPart::Bitmaps => extensions_of(alloc, image, 37)?,
+        UncountedPart::Encryption => places_of_keys(alloc, image)?,
+    };
     Ok(Some(Refusal { fault, places }))
+}
+
+// Where an image says that it has encryption with keys in clusters: by extensions, or by a field where it has
+// none of these.
+fn places_of_keys<S: Storage>(alloc: Global, image: &mut S) -> Result<Vec<Place>, Fault>
+    ensures unchanged { (S.state image.new).byte_at ≡ (S.state image.old).byte_at }
+{
+    let extensions = extensions_of(alloc, image, 37)?;
+    if extensions.is_empty() {
+        return fields_of(alloc, image, Topic::Encryption);
+    }
+    Ok(extensions)
 }

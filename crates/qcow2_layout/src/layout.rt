@@ -66,7 +66,7 @@ impl<'a> Layout<'a> {
     /// A reader of the runs of an image with this header, before the first of them. Reads its tables, and
     /// looks at what uses the first clusters.
     ///
-    /// Returns the first of these faults: 37 where the image has snapshots, bitmaps or an encryption header,
+    /// Returns the first of these faults: 37 where the image has snapshots, bitmaps or LUKS encryption,
     /// that of the L1 table, that of the refcount table, 21 where a refcount block would end past 2^56, or
     /// that of an L2 table. Changes no byte.
     pub fn new<S: Storage>(

@@ -164,7 +164,8 @@ any_unknown-same number old new same =
 pub uncounted_part-same : (old new : HeaderRecord) → SaysSame old new → uncounted_part new ≡ uncounted_part old
 uncounted_part-same old new same =
     let snapshots : new.v2.nb_snapshots ≡ old.v2.nb_snapshots = ap (λ (part : V2Header). part.nb_snapshots) same.v2 in
-    rw (snapshots, any_unknown-same 0x23852875 old new same, any_unknown-same 0x0537be77 old new same) refl
+    let encryption : new.v2.crypt_method ≡ old.v2.crypt_method = ap (λ (part : V2Header). part.crypt_method) same.v2 in
+    rw (snapshots, encryption, any_unknown-same 0x23852875 old new same, any_unknown-same 0x0537be77 old new same) refl
 
 -- and the same geometry
 pub geometry-same : (old new : HeaderRecord) → SaysSame old new → geometry_of new ≡ geometry_of old

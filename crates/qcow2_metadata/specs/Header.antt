@@ -7,7 +7,7 @@ pub mod Open
 pub mod Pointers
 pub mod Text
 pub mod Update
-use Rattle.std.specs.Prelude.{◌≡◌, ◌⊎◌, All, ℕ, Bool, true, not, nat_eq, ◌==◌, ◌+◌, ◌-◌, ◌*◌, ◌%◌, ◌^◌, ◌≤◌, List, [], ◌∷◌, ◌++◌, map, codes, Option, Some, None, IfSome, is_some, if◌then◌else◌, option_to_list, slice_get}
+use Rattle.std.specs.Prelude.{◌≡◌, ◌⊎◌, All, ℕ, Bool, true, not, nat_eq, nat_le, ◌||◌, ◌==◌, ◌+◌, ◌-◌, ◌*◌, ◌%◌, ◌^◌, ◌≤◌, List, [], ◌∷◌, ◌++◌, map, codes, Option, Some, None, IfSome, is_some, if◌then◌else◌, option_to_list, slice_get}
 use Rattle.std.specs.Cmp.Lexicographic.{pointwise}
 use Rattle.std.specs.List.{list_all, list_any}
 use Rattle.std.specs.Str.{IsUtf8}
@@ -69,12 +69,16 @@ abbrev pub other_features : V3HeaderBase → ℕ
 other_features base =
     base.incompatible_features - 2 ^ external_data_file_bit * field base.incompatible_features external_data_file_bit 1
 
+-- the kind of encryption that is called LUKS. It keeps its keys in clusters, and later kinds may do so too
+abbrev pub luks_method : ℕ
+luks_method = 2
+
 -- the first part of an image that refers to clusters and that isn't read here, if it has one
 abbrev pub uncounted_part : HeaderRecord → Option UncountedPart
 uncounted_part header =
     if not (header.v2.nb_snapshots == 0) then Some Snapshots
     else if list_any (is_unknown 0x23852875) header.extensions then Some Bitmaps
-    else if list_any (is_unknown 0x0537be77) header.extensions then Some Encryption
+    else if nat_le luks_method header.v2.crypt_method || list_any (is_unknown 0x0537be77) header.extensions then Some Encryption
     else None
 
 -- what features are called in new images

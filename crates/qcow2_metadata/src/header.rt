@@ -36,6 +36,9 @@ const BITMAPS: u32 = 0x23852875;
 
 const ENCRYPTION: u32 = 0x0537be77;
 
+// The kind of encryption that is called LUKS. It keeps its keys in clusters, and later kinds may do so too.
+const LUKS: u32 = 2;
+
 /// The header of an image in memory. Clauses see it as its record.
 #[derive(Debug, Drop)]
 pub struct Header {
@@ -292,7 +295,8 @@ impl Header {
     }
 
     /// The first part of the image that refers to clusters and that isn't read here, if it has one:
-    /// snapshots, bitmaps, or encryption.
+    /// snapshots, bitmaps, or encryption. Encryption is one with an extension of its own, or by
+    /// `crypt_method` LUKS or a later kind: of version 2, whose extensions aren't read, that alone is seen.
     pub fn uncounted_part(&self) -> Option<UncountedPart>
         ensures { result ≡ uncounted_part self.now }
     {
@@ -302,7 +306,8 @@ impl Header {
         if has_unknown(&self.extensions, BITMAPS) {
             return Some(UncountedPart::Bitmaps);
         }
-        has_unknown(&self.extensions, ENCRYPTION).then_some(UncountedPart::Encryption)
+        let has_keys = LUKS <= self.v2.crypt_method || has_unknown(&self.extensions, ENCRYPTION);
+        has_keys.then_some(UncountedPart::Encryption)
     }
 
     /// The version of the format, 2 or 3.

@@ -23,34 +23,34 @@ struct Checked {
 
 // The L1 entry and a next one, and the L2 entry of data in cluster 5, which is at guest offset 0x600, and the
 // two after it.
-const TABLE_ENTRY: u64 = 512;
+pub(super) const TABLE_ENTRY: u64 = 512;
 
-const NEXT_TABLE: u64 = 520;
+pub(super) const NEXT_TABLE: u64 = 520;
 
-const DATA_ENTRY: u64 = 1024 + 24;
+pub(super) const DATA_ENTRY: u64 = 1024 + 24;
 
-const NEXT_ENTRY: u64 = 1024 + 32;
+pub(super) const NEXT_ENTRY: u64 = 1024 + 32;
 
-const THIRD_ENTRY: u64 = 1024 + 40;
+pub(super) const THIRD_ENTRY: u64 = 1024 + 40;
 
 // The counters of clusters 0 to 3, 4 to 7, and 8 to 11.
-const COUNTERS: u64 = 2048;
+pub(super) const COUNTERS: u64 = 2048;
 
-const COUNTERS_4: u64 = 2056;
+pub(super) const COUNTERS_4: u64 = 2056;
 
-const COUNTERS_8: u64 = 2064;
+pub(super) const COUNTERS_8: u64 = 2064;
 
 // A disk of two L2 tables, and an external data file.
-const TWO_TABLES: (u64, u64) = (32, 2);
+pub(super) const TWO_TABLES: (u64, u64) = (32, 2);
 
-const LARGER: (u64, u64) = (24, 65536);
+pub(super) const LARGER: (u64, u64) = (24, 65536);
 
-const EXTERNAL: (u64, u64) = (72, 4);
+pub(super) const EXTERNAL: (u64, u64) = (72, 4);
 
 // The L1 entry and the entry of data without the copied flag.
-const TABLE: (u64, u64) = (TABLE_ENTRY, 0x400);
+pub(super) const TABLE: (u64, u64) = (TABLE_ENTRY, 0x400);
 
-const DATA: (u64, u64) = (DATA_ENTRY, 0xa00);
+pub(super) const DATA: (u64, u64) = (DATA_ENTRY, 0xa00);
 
 // The greatest offset of a cluster.
 const LAST: u64 = (1 << 56) - 512;
@@ -271,6 +271,9 @@ const REFUSED: &[Refused] = rows! { Refused:
     { name: "bitmaps", before: counted! { (104, 0x2385_2875_0000_0000) },
         fault: Fault::Uncounted(UncountedPart::Bitmaps), reported: UNCOUNTED },
     { name: "an encryption header", before: counted! { (104, 0x0537_be77_0000_0000) },
+        fault: Fault::Uncounted(UncountedPart::Encryption), reported: UNCOUNTED },
+    { name: "LUKS in version 2",
+        before: counted! { (0, 0x5146_49fb_0000_0002), (32, 0x0000_0002_0000_0001) },
         fault: Fault::Uncounted(UncountedPart::Encryption), reported: UNCOUNTED },
     { name: "snapshots before a bad L1 table", before: counted! { (60, 1 << 32), (TABLE_ENTRY, 1) },
         fault: Fault::Uncounted(UncountedPart::Snapshots), reported: UNCOUNTED },

@@ -1,6 +1,9 @@
 //! The command `check` with a repair: what it leaves of an image and finds in it then, and what it refuses.
 
-use super::check::{LARGE_COUNTERS, LATE_LINES, LATE_TABLES, ended_by};
+use super::check::{
+    COUNTERS, COUNTERS_4, COUNTERS_8, DATA, EXTERNAL, LARGE_COUNTERS, LARGER, LATE_LINES,
+    LATE_TABLES, NEXT_ENTRY, NEXT_TABLE, TABLE, THIRD_ENTRY, TWO_TABLES, ended_by,
+};
 use super::run::Ended::Failed;
 use super::whole_images::{RUN, Run, check_run};
 use crate::sample_image::{COPIED, Numbers, counted};
@@ -27,36 +30,14 @@ const CONSISTENT: Repaired = Repaired {
     text: "consistent\n",
 };
 
-// The L1 entry and a next one, and the entry of data in cluster 5 and the two after it.
-const TABLE_ENTRY: u64 = 512;
-
-const NEXT_TABLE: u64 = 520;
-
-const DATA_ENTRY: u64 = 1024 + 24;
-
-const NEXT_ENTRY: u64 = 1024 + 32;
-
-const THIRD_ENTRY: u64 = 1024 + 40;
-
-// The refcount table, and the counters of clusters 0 to 3, 4 to 7, and 8 to 11.
 const REFTABLE: u64 = 1536;
-
-const COUNTERS: u64 = 2048;
-
-const COUNTERS_4: u64 = 2056;
-
-const COUNTERS_8: u64 = 2064;
 
 // The last counters of the block, to which the file reaches where it was written.
 const BLOCK_END: (u64, u64) = (COUNTERS + 504, 0);
 
 const WRITTEN: Numbers<'static> = counted! { BLOCK_END };
 
-// Both entries without the copied flag, and a feature that whoever writes clears.
-const TABLE: (u64, u64) = (TABLE_ENTRY, 0x400);
-
-const DATA: (u64, u64) = (DATA_ENTRY, 0xa00);
-
+// A feature that whoever writes clears.
 const AUTOCLEAR: (u64, u64) = (88, 1);
 
 const REPAIRED: &[Repaired] = rows! {
@@ -101,13 +82,6 @@ const REPAIRED: &[Repaired] = rows! {
         after: counted! { (NEXT_ENTRY, 0x2_0000), BLOCK_END }, verdict: Verdict::Harmful,
         text: "missing 256 1 0 1\nleaked 0 missing 1 shared 0 false 0 late 0\n" },
 };
-
-// A disk of two L2 tables, and an external data file.
-const TWO_TABLES: (u64, u64) = (32, 2);
-
-const LARGER: (u64, u64) = (24, 65536);
-
-const EXTERNAL: (u64, u64) = (72, 4);
 
 #[test]
 fn a_repair_prints_what_is_left(rt: HostRuntime) -> Result<(), Fail> {

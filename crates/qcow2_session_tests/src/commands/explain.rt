@@ -68,6 +68,10 @@ const EXTENSIONS: &[Row] = rows! { Row:
             in IMAGE: byte 120: extension 0x44415441 of 2 bytes\n" },
     { fault: 37, before: &[(104, 0x2385_2875_0000_0000)],
         lines: "in IMAGE: byte 104: extension 0x23852875 of 0 bytes\n" },
+    { fault: 37, before: &[(32, 0x0000_0002_0000_0001), (104, 0x0537_be77_0000_0000)],
+        lines: "in IMAGE: byte 104: extension 0x537be77 of 0 bytes\n" },
+    { fault: 37, before: &[(0, 0x5146_49fb_0000_0002), (32, 0x0000_0002_0000_0001)],
+        lines: "in IMAGE: byte 32: crypt_method is 2\n" },
 };
 
 const TABLES: &[Row] = rows! { Row:
