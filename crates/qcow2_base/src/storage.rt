@@ -70,13 +70,11 @@ pub trait Storage {
         ensures { WritesBytes result offset buf.now (state self.old) (state self.new) };
 
     /// Waits until all that was written before is on the device, so that it outlives a crash of the machine.
-    /// Changes no byte. After a failure nothing is known of what is on the device. This body is for storages
-    /// that have no device: it does nothing.
+    /// Changes no byte. After a failure nothing is known of what is on the device. The order in which edits
+    /// and repairs reach the device rests on this call: a storage over another passes it on, and only one
+    /// without a device does nothing.
     fn sync(&mut self) -> Result<(), StorageFault>
-        ensures { Syncs result (state self.old) (state self.new) }
-    {
-        Ok(())
-    }
+        ensures { Syncs result (state self.old) (state self.new) };
 
     ghost mem_align_is_power: { (s : Self) → IsPowerOfTwo (state s).mem_align };
 

@@ -75,6 +75,13 @@ impl<S: Storage> Storage for BoundedStorage<S> {
         self.fail()
     }
 
+    fn sync(&mut self) -> Result<(), StorageFault> {
+        if let Ok(()) = self.inner.sync() {
+            return Ok(());
+        }
+        self.fail()
+    }
+
     ghost mem_align_is_power = { λ b. S.mem_align_is_power b.inner };
 
     ghost req_align_is_power = { λ b. S.req_align_is_power b.inner };

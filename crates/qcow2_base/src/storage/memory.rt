@@ -98,6 +98,11 @@ impl Storage for MemStorage {
         }
     }
 
+    /// There is no device.
+    fn sync(&mut self) -> Result<(), StorageFault> {
+        Ok(())
+    }
+
     ghost mem_align_is_power = { λ m. m.aligned };
 
     ghost req_align_is_power = { λ m. m.aligned };
