@@ -4,7 +4,7 @@ use Rattle.std.specs.List.{All}
 use Rattle.qcow2_base.specs.Storage.{Image, IsBytes, OnImage, OnImages, OnlyWrites, SameOutside, StorageState}
 use Rattle.qcow2_base.specs.Types.{IsClusterBits}
 use Rattle.qcow2_base.specs.declared.fault.Fault.{Fault}
-use Rattle.qcow2_base.specs.declared.fault.Fault.TheVariants.{NoOffset, Storage}
+use Rattle.qcow2_base.specs.declared.fault.Fault.TheVariants.{NoOffset, Storage, TablePlace}
 use Rattle.qcow2_base.specs.declared.types.HostCluster.{HostCluster}
 use Rattle.qcow2_metadata.specs.Results.{unless_refused}
 use Rattle.qcow2_metadata.specs.Pieces.{IsTornAtPiece, Stand}
@@ -80,6 +80,14 @@ pub record IsLoaded {G : Type 0} (layout : Layout) (g : G) (place : HostCluster)
   pub cluster : loaded.cluster ≡ Some place
   pub unmodified : loaded.modified ≡ false
   pub geometry : loaded.geometry ≡ g
+
+-- a table or a block after a reload that ended in this answer: its geometry and how many numbers it has stay. If it was
+-- refused for its place it is as before. After any other fault it has no cluster, and counts as modified
+pub record LeavesReloaded {G T : Type 0} (answer : Result T Fault) (old new : Placed G) : Type 0 where
+  pub geometry : new.geometry ≡ old.geometry
+  pub count : length new.numbers ≡ length old.numbers
+  pub refused : IsErrOf answer TablePlace → new ≡ old
+  pub failed : IfErr answer (λ fault. fault ≢ TablePlace → (new.cluster ≡ None) × (new.modified ≡ true))
 
 -- the new image has the numbers at the cluster, and is the old one where that had them there
 pub record IsWritten (layout : Layout) (numbers : List ℕ) (cluster : HostCluster) (old new : Image) : Type 0 where

@@ -5,7 +5,7 @@ ghost use Rattle.qcow2_base.specs.Format.{max_file_length};
 ghost use Rattle.qcow2_base.specs.Storage.{OnImage, OnlyReads};
 ghost use Rattle.qcow2_base.specs.Types.{IsClusterBits};
 ghost use Rattle.qcow2_base.specs.declared.types.HostOffset.{HostOffset as Offset};
-ghost use Rattle.qcow2_metadata.specs.Placed.{FollowsWrite, IsLoaded, RefusesPlace, Writes, WritesIfModified, new_placed, offset_of, with_number};
+ghost use Rattle.qcow2_metadata.specs.Placed.{FollowsWrite, IsLoaded, LeavesReloaded, RefusesPlace, Writes, WritesIfModified, new_placed, offset_of, with_number};
 ghost use Rattle.qcow2_metadata.specs.Results.{Reads};
 ghost use Rattle.qcow2_metadata.specs.Refblock.Guard.{IsBlockGuard};
 ghost use Rattle.qcow2_metadata.specs.Refblock.Counters.{IsOfOrder, kept_counters};
@@ -149,8 +149,8 @@ impl RefBlock {
     }
 
     /// Reads the block that begins with a cluster of the image into this one, as `load` does, but takes no
-    /// memory. Refuses an end past 2^56. After a fault the block's counters may be any, it has no cluster,
-    /// and counts as modified. Changes no byte, whatever it returns.
+    /// memory. Refuses an end past 2^56 (21), and stays then. After a storage fault its counters may be any,
+    /// it has no cluster, and counts as modified. Changes no byte, whatever it returns.
     pub fn reload<S: Storage>(
         &mut self,
         image: &mut S,
@@ -164,14 +164,13 @@ impl RefBlock {
         ensures loaded { OnOk result (IsLoaded (block_layout self.old.geometry) self.old.geometry cluster
             (S.state image.old) self.new) }
         ensures memory { IfErr result (λ fault. fault ≢ Fault.NoMemory) }
-        ensures left { OnErr result (self.new
-            ≡ record self.old { numbers = self.new.numbers; cluster = None; modified = true }) }
+        ensures left { LeavesReloaded result self.old self.new }
     {
+        let offset = range_offset(cluster, self.cluster_bits, 1 << self.cluster_bits)?;
         self.placement = Placement {
             cluster: None,
             modified: true,
         };
-        let offset = range_offset(cluster, self.cluster_bits, 1 << self.cluster_bits)?;
         read_counters(&mut self.counters, image, header, offset)?;
         self.placement = Placement {
             cluster: Some(cluster),

@@ -1,7 +1,5 @@
--- Where does an L2 table have compressed data, how many guest clusters read on as one, and what does a reload leave?
-use Rattle.std.specs.Prelude.{◌≡◌, ◌≢◌, ℕ, ◌+◌, ◌<◌, ◌≤◌, IfErr, IsErrOf, Option, Some, None, Result, length, true, false}
-use Rattle.qcow2_base.specs.declared.fault.Fault.{Fault}
-use Rattle.qcow2_base.specs.declared.fault.Fault.TheVariants.{TablePlace}
+-- Where does an L2 table have compressed data, and how many guest clusters read on as one?
+use Rattle.std.specs.Prelude.{◌≡◌, ℕ, ◌+◌, ◌<◌, ◌≤◌, Option, Some, None, true, false}
 use Rattle.qcow2_metadata.specs.Entries.L2Mapping.{Mapping, compressed}
 use Rattle.qcow2_metadata.specs.Entries.Runs.{reads_on}
 use Rattle.qcow2_metadata.specs.Table.{TableState, l2_entries, mapping_at, place_in_table}
@@ -19,11 +17,3 @@ pub record IsMappedRun (table : TableState) (first count : ℕ) : Type 0 where
   pub each : (k : ℕ) → k < count → reads_on k (mapping_at table first) (mapping_at table (first + k)) ≡ true
   pub ends : place_in_table table first + count < l2_entries table.geometry.cluster_bits →
       reads_on count (mapping_at table first) (mapping_at table (first + count)) ≡ false
-
--- a table after a reload that ended in this answer: its geometry and the number of its entries stay. If it was refused for its
--- place, the table is as before. After any other fault it has no cluster, and counts as modified
-pub record LeavesTable {T : Type 0} (answer : Result T Fault) (old new : TableState) : Type 0 where
-  pub geometry : new.geometry ≡ old.geometry
-  pub count : length new.numbers ≡ length old.numbers
-  pub refused : IsErrOf answer TablePlace → new ≡ old
-  pub failed : IfErr answer (λ fault. fault ≢ TablePlace → (new.cluster ≡ None) × (new.modified ≡ true))

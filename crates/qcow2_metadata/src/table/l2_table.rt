@@ -7,7 +7,7 @@ ghost use Rattle.qcow2_base.specs.declared.fault.Fault.TheVariants.{NoMemory};
 ghost use Rattle.qcow2_metadata.specs.Entries.L2Mapping.{IsPlaced, meaning};
 ghost use Rattle.qcow2_metadata.specs.Entries.L2Entry.{entry_in_copy};
 ghost use Rattle.qcow2_metadata.specs.Header.{geometry_of};
-ghost use Rattle.qcow2_metadata.specs.Placed.{IsLoaded, RefusesPlace, WritesIfModified, new_placed};
+ghost use Rattle.qcow2_metadata.specs.Placed.{IsLoaded, LeavesReloaded, RefusesPlace, WritesIfModified, new_placed};
 ghost use Rattle.qcow2_metadata.specs.Table.{IsTableFault, l2_entries, l2_kind, l2_layout, layout_of_table, loaded_l2_table, mapping_at};
 ghost use Rattle.qcow2_metadata.specs.Results.{Reads};
 
@@ -68,7 +68,7 @@ fn shared_entries(
 impl EntryTable<AtomicL2Entry> {
     ghost use Rattle.std.specs.Prelude.{option_map};
     ghost use Rattle.qcow2_metadata.specs.Table.L2Guards.{IsTableGuard, guarded_range, references};
-    ghost use Rattle.qcow2_metadata.specs.Table.L2Table.{IsMappedRun, LeavesTable, compressed_range};
+    ghost use Rattle.qcow2_metadata.specs.Table.L2Table.{IsMappedRun, compressed_range};
 
     /// A table of an image with this header in which no cluster has data. It has no cluster, and
     /// counts as modified. Fails only where memory runs out.
@@ -139,7 +139,7 @@ impl EntryTable<AtomicL2Entry> {
         ensures loaded { OnOk result (IsLoaded (l2_layout self.old.geometry) self.old.geometry cluster
             (S.state image.old) self.new) }
         ensures memory { IfErr result (λ fault. fault ≢ NoMemory) }
-        ensures left { LeavesTable result self.old self.new }
+        ensures left { LeavesReloaded result self.old self.new }
     {
         let (cluster_bits, entries) = (self.cluster_bits(), self.entries());
         let offset = table_offset(cluster, cluster_bits, entries, Self::MAX_ENTRIES)?;

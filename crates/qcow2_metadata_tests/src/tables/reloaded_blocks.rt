@@ -1,5 +1,5 @@
 //! Blocks that are read again, from another cluster: each is the one that is loaded from there. A refused
-//! read leaves it without a cluster, and modified.
+//! read leaves it without a cluster, and modified. A place that is refused leaves it as it was.
 
 use super::blocks::{load, told};
 use super::refcount_blocks::pattern;
@@ -165,18 +165,11 @@ fn a_block_is_read_again_from_where_it_may_be(rt: HostRuntime) -> Result<(), Fai
     let mut image = recorded(rt.alloc(), pattern(rt.alloc(), 512)?);
     let mut block = load(rt.alloc(), &mut image, (9, 4), 0)?;
     let last = (1 << 47) - 1;
+    let stays = (256, Some(HostCluster(last)), false);
     let found = (reload(&mut block, &mut image, last), told(&block));
-    same(
-        found,
-        (Ok(()), (256, Some(HostCluster(last)), false)),
-        "last",
-    )?;
+    same(found, (Ok(()), stays), "last")?;
     image.calls.clear();
     let found = (reload(&mut block, &mut image, 1 << 47), told(&block));
-    same(
-        found,
-        (Err(Fault::TablePlace), (256, None, true)),
-        "past the last",
-    )?;
+    same(found, (Err(Fault::TablePlace), stays), "past the last")?;
     same(image.calls.len(), 0, "past the last")
 }
