@@ -1,17 +1,25 @@
 use Rattle.std.proofs.lemmas.Bool.Decides.{nat_tests}
-use Rattle.std.proofs.Common.{◌≡◌, ◌≢◌, ◌⊎◌, ℕ, false, List, [], Result, Ok, Err, IsTrue, arith}
+use Rattle.std.proofs.Common.{◌≡◌, ◌≢◌, ◌⊎◌, ℕ, ◌-◌, ◌*◌, ◌/◌, ◌^◌, ◌<◌, ◌≤◌, lit≤, false, List, [], Result, Ok, Err, IsTrue, arith, inl, inr, refl, sym, pow_pos, ◌+◌, ◌%◌}
 use Rattle.std.specs.Result.{IfOk, IsOkAnd}
 use Rattle.std.proofs.lemmas.Result.{on_ok_weaker}
-use Rattle.qcow2_base.specs.Storage.{Image, SameOutside, StorageState}
+use Rattle.qcow2_base.specs.Storage.{Image, IsBytes, SameOutside, StorageState}
+use Rattle.qcow2_base.specs.Types.{IsClusterBits}
+use Rattle.qcow2_base.specs.declared.types.HostCluster.{HostCluster}
 use Rattle.qcow2_base.specs.declared.fault.Fault.{Fault}
 use Rattle.qcow2_base.specs.declared.fault.Fault.TheVariants.{NoMemory, Storage}
 use Rattle.qcow2_edits.specs.Edits.{are_some}
 use Rattle.qcow2_edits.specs.declared.edits.Edit.{Edit}
+use Rattle.qcow2_metadata.proofs.PackingLemmas.{packed-counters_at}
+use Rattle.qcow2_metadata.proofs.RefblockLemmas.{block_bytes}
+use Rattle.qcow2_metadata.specs.Header.{Geometry}
+use Rattle.qcow2_metadata.specs.Pieces.{Stand, piece_size}
+use Rattle.qcow2_metadata.specs.Refblock.{BlockGeometry, block_entries, block_layout}
 use Rattle.qcow2_metadata.specs.Results.{result_map}
+use Rattle.qcow2_metadata.specs.Table.{l2_entries, l2_layout}
 use Rattle.qcow2_image.proofs.LookupsLemmas.{refused-as}
 use Rattle.qcow2_session.proofs.PrintingLemmas.{read_fault-of, run_between}
 use Rattle.qcow2_session.specs.Commands.Changing.{ChangeEnd, PrintsChange}
-use Rattle.qcow2_metadata.specs.Placed.{IsTorn, Layout, loaded_numbers, offset_of}
+use Rattle.qcow2_metadata.specs.Placed.{IsTorn, Layout, loaded_numbers, numbers_at, offset_of}
 use Rattle.qcow2_session.specs.Commands.Printing.{OutputBytes, PrintsText}
 
 -- there is no edit where not some are there
@@ -89,3 +97,66 @@ pub change-refused : {A O E : Type 0} (fault : Fault) (layout : Layout) (tell : 
     → PrintsChange {A = A} (run_between contents (Err fault) old new a b) layout end
 change-refused fault layout tell end run contents old new a b is refused failed unchanged torn idle outside =
     grind (arith, nat_tests, read_fault-of, refused-as)
+
+-- bytes are those of the numbers that are read from them
+abbrev pub KeepsBytes : Layout → Type 0
+KeepsBytes layout = (image : Image) (offset : ℕ) → IsBytes image
+    → Stand (layout.bytes_of (layout.numbers_from image offset)) layout.byte_count image offset
+
+pub l2-keeps_bytes : (g : Geometry) → KeepsBytes (l2_layout g)
+l2-keeps_bytes g image offset small i below =
+    let n = l2_entries g.cluster_bits in
+    sym (packed-counters_at 6 n (8 * n) image offset i (lit≤ tt) small (omega arith) below)
+
+pub block-keeps_bytes : (g : BlockGeometry) → IsClusterBits g.cluster_bits → g.refcount_order ≤ 6 → KeepsBytes (block_layout g)
+block-keeps_bytes g bits orders image offset small i below =
+    sym (packed-counters_at g.refcount_order (block_entries g.cluster_bits g.refcount_order) (2 ^ g.cluster_bits) image offset i orders small
+    (block_bytes g.cluster_bits g.refcount_order bits orders) below)
+
+-- a table and a block have bytes
+pub l2-some : (g : Geometry) → 0 < (l2_layout g).byte_count
+l2-some g = let some = pow_pos (g.cluster_bits - 3) in omega (arith, some)
+
+pub block-some : (g : BlockGeometry) → 0 < (block_layout g).byte_count
+block-some g = pow_pos g.cluster_bits
+
+-- one more failure is another number of them
+pub one-more : (old mid new : ℕ) → mid ≡ old → new ≡ (mid + 1) % 2 ^ 64 → new ≢ old
+one-more old mid new calm failed = λ same. omega (arith, calm, failed, same)
+
+-- numbers that are all written are written up to their last piece
+whole-torn : (layout : Layout) (cluster : HostCluster) (old new : Image) → KeepsBytes layout → IsBytes new → 0 < layout.byte_count
+    → SameOutside (offset_of layout cluster) layout.byte_count old new → IsTorn layout (numbers_at layout cluster new) cluster old new
+whole-torn layout cluster old new keeps small some outside = (
+  (layout.byte_count - 1) / piece_size,
+  record {
+    within = omega (arith, some);
+    before = λ i below. keeps new (offset_of layout cluster) small i (omega (arith, below, some));
+    after = λ o from. outside.after o (omega (arith, from, some));
+  },
+)
+
+-- what loads are the numbers that are there
+loads-there : (layout : Layout) (cluster : HostCluster) (image : Image) (numbers : List ℕ) → loaded_numbers layout cluster image ≡ Ok numbers → numbers_at layout cluster image ≡ numbers
+loads-there layout cluster image numbers loads = grind arith
+
+-- a change that was made and written is torn at its last piece
+made-torn : {E : Type 0} (layout : Layout) (tell : E → ChangeEnd) (run : Result E Fault) (lines : List ℕ) (old new : Image)
+    → KeepsBytes layout → IsBytes new → 0 < layout.byte_count → result_map (λ left. (tell left).lines) run ≡ Ok lines
+    → Loads layout tell run new → StaysOutside layout tell run old new → LeavesTorn layout tell run old new
+made-torn layout tell (Ok left) lines old new keeps small some made loads outside =
+    inr (rw (loads-there layout (tell left).cluster new (tell left).numbers loads) at (whole-torn layout (tell left).cluster old new keeps small some outside))
+made-torn layout tell (Err fault) lines old new keeps small some made loads outside = grind (arith, made)
+
+-- a change was made, and then the wait for the device failed
+pub change-unconfirmed : {A O E : Type 0} (layout : Layout) (tell : E → ChangeEnd) (end : Image → Result ChangeEnd Fault) (run : Result E Fault) (lines : List ℕ) (contents : O → OutputBytes) (old new : StorageState) (a b : O)
+    → (IsTrue old.tells → end old.byte_at ≡ result_map tell run)
+    → (IsTrue old.tells → result_map (λ left. (tell left).lines) run ≡ Ok lines)
+    → (IsTrue old.tells → Loads layout tell run new.byte_at)
+    → new.failures ≢ old.failures → KeepsBytes layout → IsBytes new.byte_at → 0 < layout.byte_count
+    → (IsTrue old.tells → StaysIdle tell run old.byte_at new.byte_at)
+    → (IsTrue old.tells → StaysOutside layout tell run old.byte_at new.byte_at)
+    → PrintsChange {A = A} (run_between contents (Err Storage) old new a b) layout end
+change-unconfirmed layout tell end run lines contents old new a b is made loads failed keeps small some calm outside =
+    change-refused Storage layout tell end run contents old new a b is (λ told. inl refl) (λ _. failed) (λ other. absurd (other refl))
+    (λ told _. made-torn layout tell run lines old.byte_at new.byte_at keeps small some (made told) (loads told) (outside told)) calm outside

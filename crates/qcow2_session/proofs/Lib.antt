@@ -26,5 +26,6 @@ pub mod RunningLemmas
 pub mod RunningOnFilesLemmas
 pub mod RunsLemmas
 pub mod TablesLemmas
+pub mod TotalsLemmas
 pub mod VerdictLemmas
 pub mod WordsLemmas

@@ -21,7 +21,7 @@ use Rattle.qcow2_guest_edits.specs.declared.guest_edits.GuestEdit.{GuestEdit}
 use Rattle.qcow2_guest_edits.specs.declared.guest_edits.GuestEdit.TheVariants.{Discard, Map, Zero}
 use Rattle.qcow2_apply.specs.declared.plan.Plan.{Plan as EditPlan}
 use Rattle.qcow2_session.specs.Commands.Edit.{freed_line, gained_line}
-use Rattle.qcow2_session.specs.Commands.Facts.{CommandFacts}
+use Rattle.qcow2_session.specs.Commands.Facts.{CommandFacts, plain_facts}
 use Rattle.qcow2_session.specs.Commands.Printing.{PrintsText, Run}
 use Rattle.qcow2_session.specs.Commands.Words.{Word, WordList, all_values, pair_by, parts_of, word_number}
 use Rattle.qcow2_session.specs.declared.commands.Command.{Command}
@@ -154,13 +154,6 @@ EndsApply form edits header run = RunsOut run ⊎ ((done : Result ChangedCluster
 
 -- the facts of the command `apply`
 abbrev pub apply_facts : ApplyForm → List DiskEdit → CommandFacts
-apply_facts form edits = record {
+apply_facts form edits = record (plain_facts (λ O header run. EndsApply form edits header run)) {
   changes_image = makes_edits form;
-  loads_to_write = false;
-  prints_before_faults = false;
-  has_verdict = false;
-  reads_all_tables = false;
-  cluster_bits = None;
-  place_fault = None;
-  Ends = λ header run. EndsApply form edits header run;
 }

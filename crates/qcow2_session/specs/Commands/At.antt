@@ -1,12 +1,12 @@
 -- What does the command `at` print?
-use Rattle.std.specs.Prelude.{ℕ, false, List, [], ◌∷◌, ◌++◌, Option, None, option_map, Result, codes}
+use Rattle.std.specs.Prelude.{ℕ, List, [], ◌∷◌, ◌++◌, Option, None, option_map, Result, codes}
 use Rattle.qcow2_base.specs.Storage.{Image}
 use Rattle.qcow2_base.specs.declared.fault.Fault.{Fault}
 use Rattle.qcow2_metadata.specs.Results.{result_map}
 use Rattle.qcow2_metadata.specs.Header.{HeaderRecord}
 use Rattle.qcow2_session.specs.Lines.{mapping_text}
 use Rattle.qcow2_image.specs.Lookups.{mapping_in}
-use Rattle.qcow2_session.specs.Commands.Facts.{CommandFacts}
+use Rattle.qcow2_session.specs.Commands.Facts.{CommandFacts, plain_facts}
 use Rattle.qcow2_session.specs.Commands.Printing.{Prints}
 use Rattle.qcow2_session.specs.Commands.Words.{WordList, word_number}
 use Rattle.qcow2_session.specs.declared.commands.Command.{Command}
@@ -24,13 +24,4 @@ line_at header offset image = result_map (λ found. mapping_text header.v2.clust
 
 -- the facts of the command `at` of a guest offset
 abbrev pub at_facts : ℕ → CommandFacts
-at_facts offset = record {
-  changes_image = false;
-  loads_to_write = false;
-  prints_before_faults = false;
-  has_verdict = false;
-  reads_all_tables = false;
-  cluster_bits = None;
-  place_fault = None;
-  Ends = λ header run. Prints run (line_at header offset);
-}
+at_facts offset = plain_facts (λ O header run. Prints run (line_at header offset))

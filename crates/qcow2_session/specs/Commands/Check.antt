@@ -18,7 +18,7 @@ use Rattle.qcow2_session.specs.Commands.Check.Json.{checked_object}
 use Rattle.qcow2_session.specs.Commands.Check.Lines.{flag_line, run_lines, totals_line}
 use Rattle.qcow2_session.specs.Commands.Check.Runs.{runs_of}
 use Rattle.qcow2_session.specs.Commands.Check.Totals.{totals_on, verdict_of}
-use Rattle.qcow2_session.specs.Commands.Facts.{CommandFacts}
+use Rattle.qcow2_session.specs.Commands.Facts.{CommandFacts, plain_facts}
 use Rattle.qcow2_session.specs.Commands.Printing.{OutputGets, OutputGetsPart, Prints, Run}
 use Rattle.qcow2_session.specs.Commands.Words.{Word, WordList}
 use Rattle.qcow2_session.specs.declared.commands.Command.{Command}
@@ -117,13 +117,9 @@ prints_early form.Repair = true
 
 -- the facts of the command `check`
 abbrev pub check_facts : CheckForm → CommandFacts
-check_facts how = record {
+check_facts how = record (plain_facts (λ O header run. EndsCheck how header run)) {
   changes_image = repairs how;
-  loads_to_write = false;
   prints_before_faults = prints_early how;
   has_verdict = true;
   reads_all_tables = true;
-  cluster_bits = None;
-  place_fault = None;
-  Ends = λ header run. EndsCheck how header run;
 }

@@ -1,5 +1,5 @@
 -- What does the command `count` print, and what does it leave?
-use Rattle.std.specs.Prelude.{ℕ, false, true, if◌then◌else◌, List, [], ◌∷◌, ◌++◌, Option, None, Some, option_map, Result, bytes_eq, flat_map, codes}
+use Rattle.std.specs.Prelude.{ℕ, true, if◌then◌else◌, List, [], ◌∷◌, ◌++◌, Option, None, Some, option_map, Result, bytes_eq, flat_map, codes}
 use Rattle.std.specs.Fmt.{decimal}
 use Rattle.qcow2_base.specs.Storage.{Image}
 use Rattle.qcow2_base.specs.declared.fault.Fault.{Fault}
@@ -13,7 +13,7 @@ use Rattle.qcow2_metadata.specs.Results.{result_map}
 use Rattle.qcow2_metadata.specs.Header.{HeaderRecord}
 use Rattle.qcow2_metadata.specs.Refblock.{block_geometry_of, block_layout}
 use Rattle.qcow2_session.specs.Commands.Changing.{ChangeEnd, PrintsChange}
-use Rattle.qcow2_session.specs.Commands.Facts.{CommandFacts}
+use Rattle.qcow2_session.specs.Commands.Facts.{CommandFacts, plain_facts}
 use Rattle.qcow2_image.specs.Images.{steps_end}
 use Rattle.qcow2_session.specs.Commands.Words.{WordList, all_values, pair_by, parts_of, word_number}
 use Rattle.qcow2_session.specs.declared.commands.Command.{Command}
@@ -52,14 +52,8 @@ end_of_steps cluster steps header image = result_map (λ (left : StepsEnd). reco
 
 -- the facts of the command `count` of the refcount block that begins with a cluster
 abbrev pub count_facts : HostCluster → List Step → CommandFacts
-count_facts cluster steps = record {
-  changes_image = true;
-  loads_to_write = true;
-  prints_before_faults = false;
-  has_verdict = false;
-  reads_all_tables = false;
-  cluster_bits = None;
-  place_fault = None;
-  Ends = λ header run.
-      PrintsChange run (block_layout (block_geometry_of header)) (end_of_steps cluster steps header);
-}
+count_facts cluster steps = record (plain_facts (λ O header run.
+    PrintsChange run (block_layout (block_geometry_of header)) (end_of_steps cluster steps header))) {
+      changes_image = true;
+      loads_to_write = true;
+    }

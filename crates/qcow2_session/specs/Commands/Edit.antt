@@ -13,7 +13,7 @@ use Rattle.qcow2_metadata.specs.declared.entries.ClustersToFreeEntry.{ClustersTo
 use Rattle.qcow2_metadata.specs.Table.L2Guards.{RunEnd}
 use Rattle.qcow2_metadata.specs.Header.{HeaderRecord, geometry_of}
 use Rattle.qcow2_session.specs.Commands.Changing.{ChangeEnd, PrintsChange}
-use Rattle.qcow2_session.specs.Commands.Facts.{CommandFacts}
+use Rattle.qcow2_session.specs.Commands.Facts.{CommandFacts, plain_facts}
 use Rattle.qcow2_image.specs.Images.{edits_end}
 use Rattle.qcow2_metadata.specs.Table.{l2_layout}
 use Rattle.qcow2_check.specs.NamedTables.{loaded_l1_table, named_cluster}
@@ -77,13 +77,7 @@ end_of_edits l1_index edits header image = and_then (table_cluster header l1_ind
 
 -- the facts of the command `edit` of the L2 table of an L1 entry
 abbrev pub edit_facts : ℕ → List Edit → CommandFacts
-edit_facts l1_index edits = record {
+edit_facts l1_index edits = record (plain_facts (λ O header run. PrintsChange run (l2_layout (geometry_of header)) (end_of_edits l1_index edits header))) {
   changes_image = true;
   loads_to_write = true;
-  prints_before_faults = false;
-  has_verdict = false;
-  reads_all_tables = false;
-  cluster_bits = None;
-  place_fault = None;
-  Ends = λ header run. PrintsChange run (l2_layout (geometry_of header)) (end_of_edits l1_index edits header);
 }

@@ -1,5 +1,5 @@
 -- What is said of a command beside the words that ask for it?
-use Rattle.std.specs.Prelude.{ℕ, Bool, Option}
+use Rattle.std.specs.Prelude.{ℕ, Bool, false, Option, None}
 use Rattle.qcow2_base.specs.declared.fault.Fault.{Fault}
 use Rattle.qcow2_metadata.specs.Header.{HeaderRecord}
 use Rattle.qcow2_session.specs.Commands.Printing.{Run}
@@ -23,3 +23,16 @@ pub record CommandFacts : Type 1 where
   pub place_fault : Option Fault
   -- how a run of it ends with a header: what it printed, its verdict or why it was refused, and what it changed
   pub Ends : {O : Type 0} → HeaderRecord → Run Verdict O → Type 0
+
+-- the facts of a plain command: it only reads its image, by the header, and prints at its end. Others say what differs
+abbrev pub plain_facts : ((O : Type 0) → HeaderRecord → Run Verdict O → Type 0) → CommandFacts
+plain_facts Ends = record {
+  changes_image = false;
+  loads_to_write = false;
+  prints_before_faults = false;
+  has_verdict = false;
+  reads_all_tables = false;
+  cluster_bits = None;
+  place_fault = None;
+  Ends = λ {O} header run. Ends O header run;
+}

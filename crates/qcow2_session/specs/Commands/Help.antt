@@ -4,8 +4,7 @@ use Rattle.std.specs.Io.KnownBytes.{Appends}
 use Rattle.std.specs.List.{before_first, range_with_len}
 use Rattle.qcow2_base.specs.declared.fault.Fault.TheVariants.{Storage}
 use Rattle.qcow2_help.specs.CommandTexts.{command_text, commands_text, version_text}
-use Rattle.qcow2_help.specs.FaultTexts.{fault_text}
-use Rattle.qcow2_help.specs.declared.faults.TheConstants.{FAULT_COUNT}
+use Rattle.qcow2_help.specs.FaultTexts.{fault_count, fault_text}
 use Rattle.qcow2_session.specs.Commands.Printing.{AppendsPart, OutputBytes}
 use Rattle.qcow2_session.specs.Commands.Report.{ReportsFault}
 use Rattle.qcow2_session.specs.Commands.Words.{WordList, word_number}
@@ -27,7 +26,7 @@ rule_of fault = rule_in (fault_text fault)
 
 -- the first lines of the texts on all faults
 abbrev pub all_rules : List ℕ
-all_rules = flat_map rule_of (range_with_len 1 FAULT_COUNT)
+all_rules = flat_map rule_of (range_with_len 1 fault_count)
 
 -- a text that words ask for
 abbrev pub text_of : HelpText → List ℕ

@@ -1,10 +1,10 @@
 -- What does the command `info` print?
-use Rattle.std.specs.Prelude.{◌≡◌, ℕ, false, if◌then◌else◌, List, ◌++◌, length, Option, Some, None, codes}
+use Rattle.std.specs.Prelude.{◌≡◌, ℕ, if◌then◌else◌, List, ◌++◌, length, Option, Some, None, codes}
 use Rattle.std.specs.Fmt.{decimal}
 use Rattle.qcow2_metadata.specs.Header.{HeaderRecord, first_by, uses_external_data}
 use Rattle.qcow2_metadata.specs.Header.Extensions.{name_in}
 use Rattle.qcow2_metadata.specs.declared.header.extensions.HeaderExtensionType.TheVariants as kind
-use Rattle.qcow2_session.specs.Commands.Facts.{CommandFacts}
+use Rattle.qcow2_session.specs.Commands.Facts.{CommandFacts, plain_facts}
 use Rattle.qcow2_session.specs.Commands.Printing.{PrintsText}
 use Rattle.qcow2_session.specs.Lines.{offset_text}
 
@@ -39,14 +39,5 @@ info_lines header = size_lines header ++ place_lines header ++ name_line (codes 
 
 -- the facts of the command `info`
 abbrev pub info_facts : CommandFacts
-info_facts = record {
-  changes_image = false;
-  loads_to_write = false;
-  prints_before_faults = false;
-  has_verdict = false;
-  reads_all_tables = false;
-  cluster_bits = None;
-  place_fault = None;
-  Ends = λ header run. (run.new ≡ run.old)
-      × PrintsText run.answer (run.contents run.before) (run.contents run.after) (info_lines header);
-}
+info_facts = plain_facts (λ O header run. (run.new ≡ run.old)
+    × PrintsText run.answer (run.contents run.before) (run.contents run.after) (info_lines header))

@@ -8,7 +8,7 @@ use Rattle.qcow2_metadata.specs.Header.{Geometry, geometry}
 use Rattle.qcow2_metadata.specs.Placed.{place_fault}
 use Rattle.qcow2_metadata.specs.Table.{l2_layout, loaded_l2_table}
 use Rattle.qcow2_session.specs.Commands.Entries.{table_lines}
-use Rattle.qcow2_session.specs.Commands.Facts.{CommandFacts}
+use Rattle.qcow2_session.specs.Commands.Facts.{CommandFacts, plain_facts}
 use Rattle.qcow2_session.specs.Commands.Printing.{Prints}
 use Rattle.qcow2_session.specs.declared.commands.entries.Label.TheVariants.{Index}
 use Rattle.qcow2_session.specs.Commands.Words.{WordList, pair_by, word_number}
@@ -35,13 +35,7 @@ lines_of_l2_table g cluster image = result_map (table_lines Index g 0) (loaded_l
 
 -- the facts of the command `l2` of the table that begins with a cluster, under cluster bits
 abbrev pub l2_facts : ℕ → HostCluster → CommandFacts
-l2_facts cb cluster = record {
-  changes_image = false;
-  loads_to_write = false;
-  prints_before_faults = false;
-  has_verdict = false;
-  reads_all_tables = false;
+l2_facts cb cluster = record (plain_facts (λ O header run. Prints run (lines_of_l2_table (geometry cb false) cluster))) {
   cluster_bits = Some cb;
   place_fault = place_fault (l2_layout (geometry cb false)) cluster;
-  Ends = λ header run. Prints run (lines_of_l2_table (geometry cb false) cluster);
 }

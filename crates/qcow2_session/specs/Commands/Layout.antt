@@ -13,7 +13,7 @@ use Rattle.qcow2_layout.specs.declared.parts.Part.TheVariants as part
 use Rattle.qcow2_layout.specs.declared.parts.Run.{Run}
 use Rattle.qcow2_metadata.specs.Header.{HeaderRecord}
 use Rattle.qcow2_metadata.specs.Results.{IsFromOutside}
-use Rattle.qcow2_session.specs.Commands.Facts.{CommandFacts}
+use Rattle.qcow2_session.specs.Commands.Facts.{CommandFacts, plain_facts}
 use Rattle.qcow2_session.specs.Commands.Printing.{IsOutputFault, IsReadFault, OutputGets, OutputGetsPart, Run as Printed}
 use Rattle.qcow2_session.specs.Commands.Layout.Picture.{PrintsPicture}
 use Rattle.qcow2_session.specs.Commands.Tables.{pair_text}
@@ -91,13 +91,7 @@ is_printed_in_turn Svg = false
 
 -- the facts of the command `layout`
 abbrev pub layout_facts : LayoutForm → CommandFacts
-layout_facts form = record {
-  changes_image = false;
-  loads_to_write = false;
+layout_facts form = record (plain_facts (λ O header run. PrintsLayout form run header × ReadsFor (IsErrOf run.answer Storage) run.old run.new)) {
   prints_before_faults = is_printed_in_turn form;
-  has_verdict = false;
   reads_all_tables = true;
-  cluster_bits = None;
-  place_fault = None;
-  Ends = λ header run. PrintsLayout form run header × ReadsFor (IsErrOf run.answer Storage) run.old run.new;
 }

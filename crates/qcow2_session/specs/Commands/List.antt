@@ -1,5 +1,5 @@
 -- What does the command `list` print?
-use Rattle.std.specs.Prelude.{◌≡◌, ◌⊎◌, ℕ, false, true, List, [], ◌∷◌, ◌++◌, map, None, Result, Ok, IfErr, IsErrOf, IsOkAnd, OnOk}
+use Rattle.std.specs.Prelude.{◌≡◌, ◌⊎◌, ℕ, true, List, [], ◌∷◌, ◌++◌, map, Result, Ok, IfErr, IsErrOf, IsOkAnd, OnOk}
 use Rattle.std.specs.List.{concat}
 use Rattle.qcow2_base.specs.Storage.{Image, OnImage, ReadsFor}
 use Rattle.qcow2_base.specs.declared.fault.Fault.{Fault}
@@ -8,7 +8,7 @@ use Rattle.qcow2_metadata.specs.Results.{result_map}
 use Rattle.qcow2_metadata.specs.Header.{Geometry, HeaderRecord, geometry_of}
 use Rattle.qcow2_session.specs.Commands.Printing.{IsOutputFault, IsReadFault, OutputGets, OutputGetsPart, Run}
 use Rattle.qcow2_session.specs.Commands.Entries.{table_lines}
-use Rattle.qcow2_session.specs.Commands.Facts.{CommandFacts}
+use Rattle.qcow2_session.specs.Commands.Facts.{CommandFacts, plain_facts}
 use Rattle.qcow2_image.specs.L2Tables.{NamedTables, WalkState, named_tables, tables_left}
 use Rattle.qcow2_check.specs.NamedTables.{loaded_l1_table}
 use Rattle.qcow2_session.specs.declared.commands.entries.Label.TheVariants.{Offset}
@@ -60,14 +60,8 @@ pub record PrintsList {A O : Type 0} (run : Run A O) (tables : Image → Result 
 
 -- the facts of the command `list`, which prints table by table
 abbrev pub list_facts : CommandFacts
-list_facts = record {
-  changes_image = false;
-  loads_to_write = false;
-  prints_before_faults = true;
-  has_verdict = false;
-  reads_all_tables = true;
-  cluster_bits = None;
-  place_fault = None;
-  Ends = λ header run.
-      PrintsList run (texts_of_tables header) × ReadsFor (IsErrOf run.answer Storage) run.old run.new;
-}
+list_facts = record (plain_facts (λ O header run.
+    PrintsList run (texts_of_tables header) × ReadsFor (IsErrOf run.answer Storage) run.old run.new)) {
+      prints_before_faults = true;
+      reads_all_tables = true;
+    }

@@ -8,7 +8,7 @@ use Rattle.qcow2_metadata.specs.Header.{HeaderRecord, geometry_of}
 use Rattle.qcow2_metadata.specs.Results.{result_map}
 use Rattle.qcow2_image.specs.Extents.{AreExtents, AreExtentsBefore, Contents, ExtentsState, contents_for, contents_of}
 use Rattle.qcow2_check.specs.NamedTables.{loaded_l1_table}
-use Rattle.qcow2_session.specs.Commands.Facts.{CommandFacts}
+use Rattle.qcow2_session.specs.Commands.Facts.{CommandFacts, plain_facts}
 use Rattle.qcow2_session.specs.Commands.Printing.{IsOutputFault, IsReadFault, OutputGets, OutputGetsPart, Run}
 use Rattle.qcow2_session.specs.Commands.Words.{WordList}
 use Rattle.qcow2_session.specs.Lines.{offset_text}
@@ -124,14 +124,8 @@ pub record PrintsExtents {A O : Type 0} (run : Run A O) (format : ExtentFormat) 
 
 -- the facts of the command `map`, which prints extent by extent
 abbrev pub map_facts : ExtentFormat → CommandFacts
-map_facts format = record {
-  changes_image = false;
-  loads_to_write = false;
-  prints_before_faults = true;
-  has_verdict = false;
-  reads_all_tables = true;
-  cluster_bits = None;
-  place_fault = None;
-  Ends = λ header run.
-      PrintsExtents run format (disk_of header) × ReadsFor (IsErrOf run.answer Storage) run.old run.new;
-}
+map_facts format = record (plain_facts (λ O header run.
+    PrintsExtents run format (disk_of header) × ReadsFor (IsErrOf run.answer Storage) run.old run.new)) {
+      prints_before_faults = true;
+      reads_all_tables = true;
+    }

@@ -1,5 +1,5 @@
 -- What does the command `refcount` print?
-use Rattle.std.specs.Prelude.{ℕ, false, List, [], ◌∷◌, ◌++◌, flat_map, map, Option, None, option_map, Result, codes}
+use Rattle.std.specs.Prelude.{ℕ, List, [], ◌∷◌, ◌++◌, flat_map, map, Option, None, option_map, Result, codes}
 use Rattle.std.specs.Fmt.{decimal}
 use Rattle.qcow2_base.specs.Storage.{Image}
 use Rattle.qcow2_base.specs.declared.fault.Fault.{Fault}
@@ -7,7 +7,7 @@ use Rattle.qcow2_base.specs.declared.types.HostCluster.{HostCluster}
 use Rattle.qcow2_check.specs.Counters.{counter_of, placed_reftable}
 use Rattle.qcow2_metadata.specs.Header.{HeaderRecord}
 use Rattle.qcow2_metadata.specs.Results.{result_map}
-use Rattle.qcow2_session.specs.Commands.Facts.{CommandFacts}
+use Rattle.qcow2_session.specs.Commands.Facts.{CommandFacts, plain_facts}
 use Rattle.qcow2_session.specs.Commands.Printing.{Prints}
 use Rattle.qcow2_session.specs.Commands.Words.{Word, WordList, all_values, word_number}
 use Rattle.qcow2_session.specs.declared.commands.Command.{Command}
@@ -45,13 +45,4 @@ counter_lines header clusters image = result_map (flat_map counted_cluster_line)
 
 -- the facts of the command `refcount` of clusters
 abbrev pub refcount_facts : List HostCluster → CommandFacts
-refcount_facts clusters = record {
-  changes_image = false;
-  loads_to_write = false;
-  prints_before_faults = false;
-  has_verdict = false;
-  reads_all_tables = false;
-  cluster_bits = None;
-  place_fault = None;
-  Ends = λ header run. Prints run (counter_lines header clusters);
-}
+refcount_facts clusters = plain_facts (λ O header run. Prints run (counter_lines header clusters))

@@ -1,5 +1,5 @@
 -- What does the command `tables` print?
-use Rattle.std.specs.Prelude.{ℕ, false, ◌*◌, ◌^◌, List, [], ◌∷◌, ◌++◌, flat_map, slice_index, Some, None, Result, codes}
+use Rattle.std.specs.Prelude.{ℕ, ◌*◌, ◌^◌, List, [], ◌∷◌, ◌++◌, flat_map, slice_index, Some, None, Result, codes}
 use Rattle.std.specs.Fmt.{decimal}
 use Rattle.std.specs.Int.{div_ceil}
 use Rattle.std.specs.List.{range_with_len}
@@ -12,7 +12,7 @@ use Rattle.qcow2_check.specs.Uses.{ImageTables, image_tables}
 use Rattle.qcow2_metadata.specs.Header.{HeaderRecord}
 use Rattle.qcow2_metadata.specs.Results.{and_then, result_map}
 use Rattle.qcow2_metadata.specs.Table.{l2_entries}
-use Rattle.qcow2_session.specs.Commands.Facts.{CommandFacts}
+use Rattle.qcow2_session.specs.Commands.Facts.{CommandFacts, plain_facts}
 use Rattle.qcow2_session.specs.Commands.Printing.{Prints}
 use Rattle.qcow2_session.specs.Lines.{offset_text}
 use Rattle.qcow2_session.specs.declared.commands.tables.TableLine.{TableLine}
@@ -91,13 +91,4 @@ tables_lines header image = result_map (flat_map table_line) (image_places heade
 
 -- the facts of the command `tables`
 abbrev pub tables_facts : CommandFacts
-tables_facts = record {
-  changes_image = false;
-  loads_to_write = false;
-  prints_before_faults = false;
-  has_verdict = false;
-  reads_all_tables = false;
-  cluster_bits = None;
-  place_fault = None;
-  Ends = λ header run. Prints run (tables_lines header);
-}
+tables_facts = plain_facts (λ O header run. Prints run (tables_lines header))

@@ -20,13 +20,13 @@ use qcow2_metadata::{ClustersToFreeEntry, Header};
 use std::alloc::{AllocError, Global};
 use std::io::Write;
 
-/// Makes edits of the L2 table that an L1 entry names, in an image with this header, and prints the clusters
-/// that lost a reference, and then those that gained one.
+/// Makes edits of the L2 table that an L1 entry names, in an image with this header. Waits until they are on
+/// the device, and then prints the clusters that lost a reference, and those that gained one.
 ///
 /// Returns the fault of the L1 table, 23 where the L1 entry names no table, the fault of the L2 table or of
 /// the first edit that doesn't fit before any line, and has changed no byte then. A failed write to `out` is
 /// the storage fault: the table is written by then. After a storage fault of the image some pieces of the
-/// table may be written.
+/// table may be written, or all.
 pub fn edit_entries<S: Storage, O: Write>(
     alloc: Global,
     image: &mut S,
@@ -41,6 +41,7 @@ pub fn edit_entries<S: Storage, O: Write>(
 {
     let cluster = table_of_entry(alloc, image, header, l1_index)?;
     let outcome = edit_image(alloc, image, header, cluster, edits)?;
+    image.sync()?;
     print_outcome(&outcome, out)
 }
 

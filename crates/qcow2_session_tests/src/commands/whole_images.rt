@@ -380,17 +380,19 @@ struct Calls<'a> {
 // Each asks for the file's kind by one call, and reads the header's 512 bytes by 14: 104 by two reads, and
 // 408 by five. A read sets the place before it asks for bytes; where the file gives no more, it asks for the
 // length. A write sets the place, and passes on what it wrote. An L1 table of one entry takes two calls, a
-// table of 512 bytes twelve, a block past the end three; to write one of these takes 18. A place past the
-// end need not be one that the file can be set to. After the header `list` and `map` read one page, of whose
-// 4096 bytes the file has 1536: by 16 reads and one that gives none, and they ask for the length.
+// table of 512 bytes twelve, a block past the end three; to write one of these takes 18, and one more to
+// wait for the device. A place past the end need not be one that the file can be set to. After the header
+// `list` and `map` read one page, of whose 4096 bytes the file has 1536: by 16 reads and one that gives
+// none, and they ask for the length.
 const CALLS: &[Calls<'static>] = rows! { Calls:
     { line: "l2 IMAGE 9 2", printed: ONE_LINE, calls: 1 + 12, harmless: None },
     { line: "info IMAGE", printed: INFO, calls: 1 + 14, harmless: None },
     { line: "list IMAGE", printed: LIST, calls: 1 + 14 + 35, harmless: Some(1 + 14 + 32) },
     { line: "map IMAGE", printed: EXTENTS, calls: 1 + 14 + 35, harmless: Some(1 + 14 + 32) },
     { line: "at IMAGE 1543", printed: DATA_LINE, calls: 1 + 14 + 2 + 12, harmless: None },
-    { line: "edit IMAGE 0 map:3:6", printed: MAPPED, calls: 1 + 14 + 2 + 12 + 18, harmless: None },
-    { line: "count IMAGE 3 inc:0 dec:1", printed: "ok 0\nrefused\n", calls: 1 + 14 + 3 + 18,
+    { line: "edit IMAGE 0 map:3:6", printed: MAPPED, calls: 1 + 14 + 2 + 12 + 18 + 1,
+        harmless: None },
+    { line: "count IMAGE 3 inc:0 dec:1", printed: "ok 0\nrefused\n", calls: 1 + 14 + 3 + 18 + 1,
         harmless: Some(1 + 14) },
 };
 
