@@ -208,6 +208,13 @@ impl<'a> Trial<'a> {
         is_same_from(self.image.inner.bytes(), bytes, start as usize)
     }
 
+    /// Reports a line after which not each byte but the header's is as before, and makes the image as it was.
+    pub(crate) fn end_undone(&mut self, line: &str) -> Result<(), Fault> {
+        let holds = self.has_bytes_but_header(self.before);
+        self.unless(holds, line, "each byte as before, once undone", "others");
+        self.restore()
+    }
+
     /// Whether the image has the bytes that it was made with.
     pub(crate) fn is_kept(&self) -> bool {
         !self.image.is_written() || self.image.inner.bytes() == self.before

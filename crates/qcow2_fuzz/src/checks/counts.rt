@@ -40,14 +40,7 @@ pub(crate) fn check_undone(trial: &mut Trial<'_>, random: &mut Random) -> Result
         let undone = trial.run(Kind::Count, line.as_str())?;
         trial.unless(undone.is_ok(), line.as_str(), "status 0", "a fault");
     }
-    let holds = trial.has_bytes_but_header(trial.before);
-    trial.unless(
-        holds,
-        line.as_str(),
-        "each byte as before, once undone",
-        "others",
-    );
-    trial.restore()
+    trial.end_undone(line.as_str())
 }
 
 // Whether a step prints the counter that `refcount` printed of its cluster.

@@ -58,14 +58,7 @@ pub(crate) fn check_undone(
     let line = format!(in trial.alloc; "edit IMAGE {l1_index}{}", undone.undo)?;
     let answer = trial.run(Kind::Edit, line.as_str())?;
     trial.unless(answer.is_ok(), line.as_str(), "status 0", "a fault");
-    let holds = trial.has_bytes_but_header(trial.before);
-    trial.unless(
-        holds,
-        line.as_str(),
-        "each byte as before, once undone",
-        "others",
-    );
-    trial.restore()
+    trial.end_undone(line.as_str())
 }
 
 // The first entry that is edited: one that is listed, or any.
