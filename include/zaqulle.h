@@ -280,8 +280,9 @@ typedef struct zq_edit {
  * data file, only ranges of compressed data are clusters of the image.
  *
  * An entry that maps to a cluster says that its refcount is exactly one: so give it one that nothing else refers to.
- * That is not looked at. Where the entry had that cluster alone already, nothing is freed or gained. Compressed data is
- * always freed. Nothing says that the table's own refcount is one: edit a copy where the L1 entry doesn't say it.
+ * That is not looked at. Where the entry had that cluster alone already, also by compressed data in it, nothing is freed or
+ * gained. Zeros that keep a cluster free compressed data all the same. Nothing says that the table's own refcount is one:
+ * edit a copy where the L1 entry doesn't say it.
  *
  * So that a crash only leaks clusters: write counters that go up first, then the table, and then counters that go down, and
  * let the file reach the disk after each.
@@ -360,8 +361,8 @@ typedef struct zq_check_totals {
  * Takes memory for the header's names, the L1 table, the refcount table, a refcount block, an L2 table at a time, and the
  * uses of a part of the clusters.
  * Faults: 1 to 21, of the header, and then of the L1 table, the refcount table, the places of its blocks and the L2 tables,
- * the first that is refused; after the header's, ZQ_UNCOUNTED for an image with snapshots, bitmaps or an encryption
- * header, whose uses aren't read; ZQ_NO_MEMORY. After ZQ_NO_MEMORY elements may have changed.
+ * the first that is refused; after the header's, ZQ_UNCOUNTED for an image with snapshots, bitmaps or LUKS encryption,
+ * whose uses aren't read; ZQ_NO_MEMORY. After ZQ_NO_MEMORY elements may have changed.
  */
 uint32_t zq_image_check(const uint8_t *bytes, size_t length, zq_finding *findings, size_t capacity, size_t *count,
                         zq_check_totals *totals);

@@ -55,3 +55,7 @@ later_fault_text number =
 -- the text on the fault of a number, if there is such a fault
 unfoldable pub fault_text : ℕ → Option (List ℕ)
 fault_text number = if nat_le number 17 then header_fault_text number else later_fault_text number
+
+-- how many faults there are: their numbers are those from 1 to this one
+abbrev pub fault_count : ℕ
+fault_count = 40

@@ -31,7 +31,7 @@ Faults 34 and 35, of a failed call and of memory, may come at any time.
 
 const VERSION: &str = "\
 qmeta 0.1.0
-proved with rattle-kit-13f logic dac8208d650f15bf
+proved with rattle-kit-13b logic dac8208d650f15bf
 ";
 
 const INFO: &str = "\
@@ -134,7 +134,7 @@ is `consistent`, or how many there are of each. With `json` it prints numbers, a
 
 Status 0: consistent. 1: a fault. 3: only leaks and late flags, which harm nobody if the file is whole.
 4: anything worse.
-Faults: those of `info`; 37 with snapshots, bitmaps or an encryption header; 18 to 21 of the tables. With
+Faults: those of `info`; 37 with snapshots, bitmaps or LUKS encryption; 18 to 21 of the tables. With
 `repair` also 39 where somebody else has the image open, and 38, 30 or 24 where it can't be repaired.
 
   $ qmeta check disk.qcow2
@@ -168,10 +168,10 @@ qmeta edit IMAGE L1INDEX EDIT..
 Changes entries of the L2 table of an L1 entry, and no counter: `apply` is safer. An EDIT is one of
 map:INDEX:CLUSTER, zero:INDEX, keep:INDEX, discard:INDEX. It prints `freed FIRST COUNT` and `gained
 CLUSTER`, whose counters are yours to change by `count`. Autoclear features are cleared, so persistent bitmaps
-are lost. Copy the image first.
+are lost, and a raw external data file is no longer marked as raw. Copy the image first.
 
-Status 0: all edits are made. 1: a fault; none is made, but that 34 may leave a part, or all where the output
-failed. Faults: those of `info`; 39, 24, 23, 32, and 18 to 21 of the tables.
+Status 0: all edits are made, and on the device. 1: a fault; none is made, but that 34 may leave a part, or
+all. Faults: those of `info`; 39, 24, 23, 32, and 18 to 21 of the tables.
 
   $ qmeta edit disk.qcow2 1 discard:16
 ";
@@ -182,10 +182,10 @@ qmeta count IMAGE CLUSTER STEP..
 Changes counters of the refcount block that begins with a host cluster. A STEP is inc:INDEX or dec:INDEX. It
 prints `ok` and the counter before each step, or `refused` where it would pass 0 or the greatest number.
 CLUSTER is your word: whatever lies there is changed. Autoclear features are cleared, so persistent bitmaps
-are lost. Copy the image first.
+are lost, and a raw external data file is no longer marked as raw. Copy the image first.
 
-Status 0: the steps are made, but for those refused. 1: a fault; none is made, but that 34 may leave a part,
-or all where the output failed. Faults: those of `info`; 39, 24, 21, 33.
+Status 0: the steps are made, but for those refused, and on the device. 1: a fault; none is made, but that 34
+may leave a part, or all. Faults: those of `info`; 39, 24, 21, 33.
 
   $ qmeta count disk.qcow2 2 dec:9
 ";

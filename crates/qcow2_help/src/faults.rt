@@ -107,22 +107,24 @@ const INCOMPATIBLE: &str = "\
 fault 17, Incompatible: No incompatible feature may be set but that of an external data file.
 The image was left dirty or corrupt, or has a feature that isn't read here, as subclusters or zstd
 compression.
-Run `qemu-img check -r all` on a dirty or corrupt image; copy any other by `qemu-img convert -O
-qcow2 IMAGE NEW`.
+Run `qemu-img check -r all` on a dirty or corrupt image; copy any other, without its snapshots, by
+`qemu-img convert -O qcow2 IMAGE NEW`, with `-B NAME -F FORMAT` where it has a backing file.
 ";
 
 const ENTRY_RESERVED: &str = "\
 fault 18, EntryReserved: The reserved bits of a table entry must be 0.
 The table is damaged, or something else was written over it.
-Restore the table from a copy, or give that entry up: write 0 there, and then run `qemu-img check -r
-leaks`.
+Restore the table from a copy, or write 0 there: `qmeta check` then shows as leaked what the entry
+named, if that isn't lost. To give it up run `qemu-img check -r leaks`, and `-r all` where the entry
+is of the refcount table.
 ";
 
 const ENTRY_UNALIGNED: &str = "\
 fault 19, EntryUnaligned: The offset in a table entry must be a multiple of the cluster size.
 The table is damaged, or something else was written over it.
-Restore the table from a copy, or give that entry up: write 0 there, and then run `qemu-img check -r
-leaks`.
+Restore the table from a copy, or write 0 there: `qmeta check` then shows as leaked what the entry
+named, if that isn't lost. To give it up run `qemu-img check -r leaks`, and `-r all` where the entry
+is of the refcount table.
 ";
 
 const TABLE_TOO_BIG: &str = "\
@@ -202,8 +204,8 @@ Tell whoever wrote that program.
 
 const BAD_EDIT: &str = "\
 fault 32, BadEdit: Each edit must name entries that are there, and a cluster that an entry can hold.
-An INDEX or a range is past the end, an OFFSET or LENGTH is no multiple of the cluster size, or a
-mapped cluster isn't free.
+An INDEX or a range is past the end, an OFFSET or LENGTH is no multiple of the cluster size, a LENGTH
+is 0, or a mapped cluster isn't free.
 Look at the edits again by `qmeta info` and `qmeta at`; none was made.
 ";
 
@@ -238,9 +240,9 @@ Use `qmeta edit`, which changes no counter.
 
 const UNCOUNTED: &str = "\
 fault 37, Uncounted: All that refers to clusters must be read, and snapshots, bitmaps and encryption \
-headers aren't.
-`check` or `layout` was asked of an image that has one of these.
-Run `qemu-img check`, which counts them.
+with keys in the image (LUKS) aren't.
+`check` or `layout` was asked of an image that has one of these, or whose header is damaged and says so.
+Run `qemu-img check`, which counts them; where that refuses the image too, restore the header from a copy.
 ";
 
 const OVERLAP: &str = "\
