@@ -39,17 +39,23 @@ fn read_tables<'a, S: Storage>(
 /// and what becomes of these. Nothing of it is done yet.
 #[derive(Drop)]
 pub struct Plan {
+    /// The image's L1 table.
     pub l1_table: L1Table,
+    /// Which of the edits are of each L2 table.
     pub by_table: EditsByTable,
+    /// The image's refcount table.
     pub reftable: RefTable,
+    /// The references that clusters gain, by refcount block.
     pub gains: Changes,
+    /// Those that they lose.
     pub losses: Changes,
+    /// What becomes of clusters: free, kept by others, or in use.
     pub clusters: ChangedClusters,
 }
 
 impl Plan {
-    /// Looks at all that edits of a disk need and do, and refuses them where something can't be. Changes no
-    /// byte.
+    /// Looks at all that edits of a disk need and do, and refuses them where something can't be, by the
+    /// faults that `apply_edits` names. Changes no byte.
     pub fn new<S: Storage>(
         alloc: Global,
         image: &mut S,
