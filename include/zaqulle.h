@@ -281,7 +281,7 @@ typedef struct zq_edit {
  *
  * An entry that maps to a cluster says that its refcount is exactly one: so give it one that nothing else refers to.
  * That is not looked at. Where the entry had that cluster alone already, also by compressed data in it, nothing is freed or
- * gained. Zeros that keep a cluster free compressed data all the same. Nothing says that the table's own refcount is one:
+ * gained. ZQ_EDIT_ZERO_KEEP frees compressed data all the same. Nothing says that the table's own refcount is one:
  * edit a copy where the L1 entry doesn't say it.
  *
  * So that a crash only leaks clusters: write counters that go up first, then the table, and then counters that go down, and

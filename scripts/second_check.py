@@ -45,7 +45,7 @@ class Tables:
         with open(path, "rb") as self.file:
             self.length = self.file.seek(0, 2)
             self.read_header()
-            if (self.snapshots and not has_snapshots) or self.has_keys:
+            if not has_snapshots and (self.snapshots or self.has_keys):
                 raise Refused(37)
             self.l1 = self.entries_at(self.l1_start, self.l1_entries, self.l1_entry)
             blocks = self.entries_at(self.reftable_start, self.reftable_clusters * self.cluster // 8, self.block_entry)

@@ -69,7 +69,7 @@ impl CheckTotals {
 /// # Errors
 ///
 /// 1 to 21, of the header and its tables, the first that is refused; [`Fault::Uncounted`] for an image with snapshots,
-/// bitmaps or an encryption header; [`Fault::NoMemory`].
+/// bitmaps or LUKS encryption; [`Fault::NoMemory`].
 ///
 /// ```
 /// use zaqulle::Finding;

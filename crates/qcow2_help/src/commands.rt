@@ -153,8 +153,8 @@ features are cleared, so persistent bitmaps are lost. An EDIT is one of
   keep:OFFSET:LENGTH       it reads as zeros, and keeps its clusters
   map:OFFSET:CLUSTER       a guest cluster is the data in a host cluster that is free
 
-OFFSET and LENGTH are multiples of the cluster size, decimal or with 0x. It prints `freed FIRST COUNT` for
-clusters that are free now, `kept CLUSTER COUNTER` for those that others use, and `gained CLUSTER`.
+OFFSET and LENGTH are multiples of the cluster size, LENGTH not 0, decimal or with 0x. It prints `freed FIRST
+COUNT` for clusters that are free now, `kept CLUSTER COUNTER` for those that others use, `gained CLUSTER`.
 
 Status 0: made. 1: a fault. Faults: those of `info`; 39, 36, 32, 27, 23, 40, 30, and 18 to 21 of the tables.
 All but 34 come before a byte changes. `qmeta explain N` says more.

@@ -114,17 +114,17 @@ Run `qemu-img check -r all` on a dirty or corrupt image; copy any other, without
 const ENTRY_RESERVED: &str = "\
 fault 18, EntryReserved: The reserved bits of a table entry must be 0.
 The table is damaged, or something else was written over it.
-Restore the table from a copy, or write 0 there: `qmeta check` then shows as leaked what the entry
-named, if that isn't lost. To give it up run `qemu-img check -r leaks`, and `-r all` where the entry
-is of the refcount table.
+Restore the table from a copy, or write 0 there. Of an L1 or L2 entry `qmeta check` then shows as
+leaked what it named, if that isn't lost; to give that up run `qemu-img check -r leaks`. Of the
+refcount table run `qemu-img check -r all`.
 ";
 
 const ENTRY_UNALIGNED: &str = "\
 fault 19, EntryUnaligned: The offset in a table entry must be a multiple of the cluster size.
 The table is damaged, or something else was written over it.
-Restore the table from a copy, or write 0 there: `qmeta check` then shows as leaked what the entry
-named, if that isn't lost. To give it up run `qemu-img check -r leaks`, and `-r all` where the entry
-is of the refcount table.
+Restore the table from a copy, or write 0 there. Of an L1 or L2 entry `qmeta check` then shows as
+leaked what it named, if that isn't lost; to give that up run `qemu-img check -r leaks`. Of the
+refcount table run `qemu-img check -r all`.
 ";
 
 const TABLE_TOO_BIG: &str = "\
@@ -218,8 +218,8 @@ was made.
 
 const STORAGE: &str = "\
 fault 34, Storage: Each call of the file and of the output must succeed.
-The file is missing, is a directory or may not be opened; or a read, a write or the output failed,
-as where the disk is full or a pipe was closed.
+The file is missing, is a directory or may not be opened; or a read, a write, the wait for the
+device or the output failed, as where the disk is full or a pipe was closed.
 Look at the path, its permissions, the disk's space and the output; after a failed write run `qmeta
 check IMAGE`.
 ";
@@ -242,7 +242,9 @@ const UNCOUNTED: &str = "\
 fault 37, Uncounted: All that refers to clusters must be read, and snapshots, bitmaps and encryption \
 with keys in the image (LUKS) aren't.
 `check` or `layout` was asked of an image that has one of these, or whose header is damaged and says so.
-Run `qemu-img check`, which counts them; where that refuses the image too, restore the header from a copy.
+Run `qemu-img check`, which counts them, with LUKS by `--object secret,id=K,file=F --image-opts
+driver=qcow2,file.filename=IMAGE,encrypt.key-secret=K`. Only where the header is damaged restore it
+from a copy.
 ";
 
 const OVERLAP: &str = "\

@@ -64,7 +64,7 @@ pub fn a_verdict_is_fine_just_where_an_image_is_consistent()
         ((report_on tables image).verdict ≡ Fine) ↔ IsConsistent tables image }
 {}
 
-/// It isn't `Harmful` exactly where no cluster is missing or shared, and no flag is false.
+/// A check's verdict is `Harmful` exactly where a cluster is missing or shared, or a flag is false.
 pub fn a_verdict_is_harmful_just_where_there_are_errors()
     ensures { (tables : ImageTables) (image : Image) →
         ((report_on tables image).verdict ≢ Harmful) ↔ HasNoErrors tables image }
