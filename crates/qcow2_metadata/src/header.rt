@@ -295,8 +295,8 @@ impl Header {
     }
 
     /// The first part of the image that refers to clusters and that isn't read here, if it has one:
-    /// snapshots, bitmaps, or encryption. Encryption is one with an extension of its own, or by
-    /// `crypt_method` LUKS or a later kind: of version 2, whose extensions aren't read, that alone is seen.
+    /// snapshots, bitmaps, or encryption that keeps keys in clusters. That is known by an extension, or by a
+    /// `crypt_method` of 2 (LUKS) or more. Extensions of version 2 aren't read, so the field alone shows it.
     pub fn uncounted_part(&self) -> Option<UncountedPart>
         ensures { result ≡ uncounted_part self.now }
     {

@@ -210,22 +210,9 @@ fn check_calls(alloc: Global, row: Row) -> Result<(), Fail> {
     let mut image = image_before(alloc, row)?;
     check_done(alloc, row, &mut image, row.calls)?;
     same(image.calls.len() as u64, row.calls, row.call)?;
-    check_wait(row, &image.calls)?;
     check_after(alloc, row, &image, row.calls)?;
     for passes in 0..row.calls {
         check_refused_call(alloc, row, passes)?;
-    }
-    Ok(())
-}
-
-// Fails unless a command that writes waits for the device at the end.
-fn check_wait(row: Row, calls: &[StorageCall]) -> Result<(), Fail> {
-    let mut is_written = false;
-    for call in calls {
-        is_written |= matches!(*call, StorageCall::Write { .. });
-    }
-    if is_written && matches!(row.call, Line(_)) {
-        return same(calls.last().copied(), Some(StorageCall::Sync), row.call);
     }
     Ok(())
 }

@@ -30,6 +30,7 @@ const CONSISTENT: Repaired = Repaired {
     text: "consistent\n",
 };
 
+// The refcount table.
 const REFTABLE: u64 = 1536;
 
 // The last counters of the block, to which the file reaches where it was written.
