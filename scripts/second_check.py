@@ -41,7 +41,7 @@ class Entry(NamedTuple):
 class Tables:
     """The tables of an image, as its bytes say. Those of snapshots aren't looked at."""
 
-    def __init__(self, path, has_snapshots=False):
+    def __init__(self, path, has_snapshots=False, to_repair=False):
         with open(path, "rb") as self.file:
             self.length = self.file.seek(0, 2)
             self.read_header()
@@ -50,6 +50,8 @@ class Tables:
             self.l1 = self.entries_at(self.l1_start, self.l1_entries, self.l1_entry)
             blocks = self.entries_at(self.reftable_start, self.reftable_clusters * self.cluster // 8, self.block_entry)
             self.blocks = {entry.index: entry.start for entry in blocks}
+            if to_repair and self.are_past_end():
+                raise Refused(21)
             if any(start + self.cluster > GREATEST_END for start in self.blocks.values()):
                 raise Refused(21)
             self.l2 = {start: self.entries_at(start, self.cluster // 8, self.l2_entry) for start in self.l2_starts()}
@@ -111,6 +113,12 @@ class Tables:
         """Where L2 tables begin, in the order of the L1 table. One that is named twice is there once."""
         return {entry.start: None for entry in self.l1 if entry.length}
 
+    def are_past_end(self):
+        """Whether a table or block has a cluster past the file's end. The file's last one may be cut."""
+        spans = [(self.l1_start, 8 * self.l1_entries), (self.reftable_start, self.reftable_clusters * self.cluster)]
+        spans += [(start, self.cluster) for start in [*self.blocks.values(), *self.l2_starts()]]
+        return max(-(-sum(span) // self.cluster) for span in spans) > -(-self.length // self.cluster)
+
     def stored_counters(self):
         """Each cluster whose counter isn't 0, and that counter. They are found by bytes that aren't 0."""
         width = 1 << self.order
@@ -135,8 +143,8 @@ class Tables:
 class Check:
     """What is wrong with an image, and what the program must print of it."""
 
-    def __init__(self, path):
-        self.tables = Tables(path)
+    def __init__(self, path, to_repair=False):
+        self.tables = Tables(path, to_repair=to_repair)
         self.spans = []
         self.fixed, self.l2, self.guest = Counter(), Counter(), Counter()
         self.count_uses()
@@ -353,7 +361,7 @@ def repair_of(path, before):
     The first cluster isn't looked at where the header has autoclear features, since it is written anew.
     """
     try:
-        check = Check(path)
+        check = Check(path, to_repair=True)
     except Refused as refused:
         return Repair(refused.args[0], before)
     fault = check.refusal()

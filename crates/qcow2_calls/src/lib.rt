@@ -1,4 +1,4 @@
-//! The calls of the libraries without their clauses. Tests compare what comes of a call with their tables,
+//! The calls of `qcow2_metadata` without their clauses. Tests compare what comes of a call with their tables,
 //! and no proof about a test has to read what the call ensures.
 //!
 //! A call whose `requires` doesn't hold isn't made: it is the fault `NOT_MADE`.
@@ -6,7 +6,6 @@
 
 mod blocks;
 mod headers;
-mod sessions;
 mod tables;
 
 pub use blocks::{
@@ -19,11 +18,6 @@ pub use headers::{
 };
 use qcow2_base::Fault;
 use qcow2_metadata::{ClustersToFreeEntry, Refused};
-pub use sessions::{
-    apply_edits, check_image, check_image_in_json, edit_image, edit_settled, edit_table, edits_fit,
-    list_l2_table, lookup, lookup_image, parse_command, plan_edits, run, run_on_file, settle,
-    step_block, step_image,
-};
 pub use tables::{
     LoadedTable, copy_l2_table, discard_cluster, enter_l2_table, enter_refblock, grow_l1_table,
     grow_reftable, least_spare, load_table, map_cluster, new_l2_table, reload_l2_table,

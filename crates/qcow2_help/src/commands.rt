@@ -135,7 +135,8 @@ is `consistent`, or how many there are of each. With `json` it prints numbers, a
 Status 0: consistent. 1: a fault. 3: only leaks and late flags, which harm nobody if the file is whole.
 4: anything worse.
 Faults: those of `info`; 37 with snapshots, bitmaps or LUKS encryption; 18 to 21 of the tables. With
-`repair` also 39 where somebody else has the image open, and 38, 30 or 24 where it can't be repaired.
+`repair` also 39 where somebody else has the image open, 21 where a table is past the end of the image's
+file, and 38, 30 or 24 where it can't be repaired.
 
   $ qmeta check disk.qcow2
 ";

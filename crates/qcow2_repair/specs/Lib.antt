@@ -1,4 +1,5 @@
 pub mod Counters
+pub mod FileEnd
 pub mod Flags
 pub mod Left
 pub mod Refusals

@@ -2,6 +2,7 @@
 #![tactic(auto)]
 
 mod counters;
+mod file_end;
 mod flag_windows;
 mod flags;
 pub mod laws;
@@ -9,4 +10,5 @@ mod refusals;
 mod repair;
 mod tables;
 
+pub use file_end::refuse_tables_past_end;
 pub use repair::repair_image;

@@ -1,8 +1,8 @@
-use Rattle.std.proofs.Common.{◌≡◌, ◌≤◌, ◌⊎◌, ℕ, List, [], ◌∷◌, ◌-◌, drop, take, take_all, length, get_or, false, Option, None, Some, Result, Ok, Err, inl, inr, refl, subst, sym, arith, IfSome}
+use Rattle.std.proofs.Common.{◌≡◌, ◌≢◌, ◌≤◌, ◌⊎◌, ℕ, List, [], ◌∷◌, ◌-◌, drop, take, take_all, length, get_or, false, Option, None, Some, Result, Ok, Err, inl, inr, refl, subst, sym, arith, IfSome}
 use Rattle.std.specs.Bool.{IsTrue}
 use Rattle.std.specs.Io.KnownBytes.{Keeps}
 use Rattle.std.specs.Result.{IfOk, IsErr, MatchResult}
-use Rattle.qcow2_base.specs.Storage.{StorageState}
+use Rattle.qcow2_base.specs.Storage.{OnlyReads, StorageState}
 use Rattle.qcow2_base.specs.Storage.File.{failures_of, file_of, file_state, state_over}
 use Rattle.qcow2_base.specs.Storage.ImageFile.{FileContent}
 use Rattle.qcow2_base.specs.Storage.ImageFiles.{ChangesOne, ClosesImage, FailsFor, PathFile}
@@ -10,11 +10,11 @@ use Rattle.qcow2_base.specs.declared.fault.Fault.{Fault}
 use Rattle.qcow2_base.specs.declared.fault.Fault.TheVariants.{NoMemory, Storage}
 use Rattle.qcow2_base.specs.declared.storage.file.FileStorage.{FileStorage}
 use Rattle.qcow2_metadata.specs.Header.{HeaderRecord}
-use Rattle.qcow2_session.proofs.PrintingLemmas.{run_between}
+use Rattle.qcow2_session.proofs.PrintingLemmas.{reads-calm, run_between}
 use Rattle.qcow2_session.specs.Commands.{command_by_name, command_of, facts_of, image_name}
 use Rattle.qcow2_session.specs.Commands.Printing.{AppendsPart, OutputBytes}
 use Rattle.qcow2_session.specs.Commands.Report.{ReportsFault, fault_line}
-use Rattle.qcow2_session.specs.Commands.RunningOnFiles.{AreNear, IsFarEdit, IsLengthFor, RunsLine, RunsOnFile, RunsWords, StopsOrEnds}
+use Rattle.qcow2_session.specs.Commands.RunningOnFiles.{FitsFile, IsLengthFor, IsRefusedInFile, RunsLine, RunsOnFile, RunsWords, StopsOrEnds}
 use Rattle.qcow2_session.specs.Commands.Running.{AfterHeader, EndsAndFlushes, FindsHeader}
 use Rattle.qcow2_session.specs.Commands.Verdict.{status_of_verdict}
 use Rattle.qcow2_session.specs.Commands.Words.{Word, WordList}
@@ -23,25 +23,42 @@ use Rattle.qcow2_session.specs.declared.commands.verdict.Verdict.{Verdict}
 use Rattle.qcow2_session.specs.declared.commands.verdict.Verdict.TheVariants.{Fine}
 
 -- a run found its header, and stopped before its command
-pub stopped-before : {O : Type 0} (command : Command) (file : FileContent) (header : HeaderRecord) (fault : Fault) (contents : O → OutputBytes) (old left : StorageState) (out : O)
+pub stopped-before : {O : Type 0} (command : Command) (file : FileContent) (header : HeaderRecord) (fault : Fault) (contents : O → OutputBytes) (old left new : StorageState) (out : O)
     → FindsHeader (facts_of command) (Ok header) old left
-    → ((fault ≡ NoMemory) × IsTrue (facts_of command).reads_all_tables) ⊎ IsFarEdit file command header fault
-    → AfterHeader (facts_of command) (StopsOrEnds file command) (run_between contents (Err fault) old left out out)
-stopped-before command file header fault contents old left out finds why =
-    (Ok header, left, finds, inl (record { fault = why; bytes = refl; output = refl }))
+    → ((fault ≡ NoMemory) × IsTrue (facts_of command).reads_all_tables) ⊎ IsRefusedInFile file command header left fault
+    → OnlyReads {T = Verdict} (Err fault) left new
+    → AfterHeader (facts_of command) (StopsOrEnds file command) (run_between contents (Err fault) old new out out)
+stopped-before command file header fault contents old left new out finds why reads =
+    (Ok header, left, finds, inl (record { fault = why; reads = reads; output = refl }))
+
+-- calls that only read and didn't fail leave a storage as it was
+pub unmoved : {T : Type 0} (value : T) (old new : StorageState) → OnlyReads (Ok value) old new → new ≡ old
+unmoved value old new reads = grind (arith, reads.device, reads.bytes, reads-calm value old new reads)
+
+-- the fault of reads is that of what they were made for
+pub same-reads : {A B : Type 0} (fault : Fault) (old new : StorageState) → OnlyReads {T = A} (Err fault) old new → OnlyReads {T = B} (Err fault) old new
+same-reads fault old new reads = record { told = reads.told; bytes = reads.bytes; device = reads.device }
+
+-- no call was made
+pub unread : {T : Type 0} (fault : Fault) (state : StorageState) → fault ≢ Storage → OnlyReads {T = T} (Err fault) state state
+unread fault state other = record {
+  told = grind (arith, other);
+  bytes = refl;
+  device = record { tells = refl; mem_align = refl; req_align = refl };
+}
 
 -- or its command ran, over what the header left, and what it left is the image
 pub ran-between : {O : Type 0} (command : Command) (file : FileContent) (header : HeaderRecord) (answer : Result Verdict Fault) (contents : O → OutputBytes)
     (old left begun ended new : StorageState) (before after : O)
-    → FindsHeader (facts_of command) (Ok header) old left → AreNear file command header → begun ≡ left → new ≡ ended
+    → FindsHeader (facts_of command) (Ok header) old left → FitsFile file command header left → begun ≡ left → new ≡ ended
     → EndsAndFlushes (facts_of command) header (run_between contents answer begun ended before after)
     → AfterHeader (facts_of command) (StopsOrEnds file command) (run_between contents answer old new before after)
-ran-between command file header answer contents old left begun ended new before after finds near same last ends =
+ran-between command file header answer contents old left begun ended new before after finds fits same last ends =
     rw last (
       Ok header,
       left,
       finds,
-      inr (near, subst (λ (s : StorageState). EndsAndFlushes (facts_of command) header (run_between contents answer s ended before after)) same ends),
+      inr (fits, subst (λ (s : StorageState). EndsAndFlushes (facts_of command) header (run_between contents answer s ended before after)) same ends),
     )
 
 -- the file of a path could not be measured or opened, after calls that changed none

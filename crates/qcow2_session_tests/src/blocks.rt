@@ -1,9 +1,10 @@
 //! Refcount blocks to step and to settle, and comparisons of what is left of them.
 
 use qcow2_base::{Fault, HostCluster, MemStorage};
-use qcow2_calls::{header_of, load_block, step_block};
+use qcow2_calls::{header_of, load_block};
 use qcow2_metadata::RefBlock;
 use qcow2_session::{Step, StepReply};
+use qcow2_session_calls::step_block;
 use qcow2_testing::same;
 use std::alloc::{AllocError, Global};
 use std::fmt::Debug;

@@ -13,7 +13,7 @@ pub(crate) mod whole_images;
 use crate::failing_output::{FailingOutput, Failure};
 use crate::tables::table_of;
 use qcow2_base::{Fault, HostCluster, MemStorage};
-use qcow2_calls::list_l2_table;
+use qcow2_session_calls::list_l2_table;
 use qcow2_testing::{FailingStorage, each, rows, same, same_bytes};
 use std::alloc::Global;
 use std::test::Fail;

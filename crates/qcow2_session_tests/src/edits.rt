@@ -6,9 +6,9 @@ use crate::tables::{
     check_outcome, check_table, map, outcome, table_with,
 };
 use qcow2_base::{ClusterCount, Fault, HostCluster};
-use qcow2_calls::{edit_table, edits_fit};
 use qcow2_metadata::ClustersToFreeEntry;
 use qcow2_session::{Edit, Outcome};
+use qcow2_session_calls::{edit_table, edits_fit};
 use qcow2_testing::{each, rows, same};
 use std::alloc::{AllocError, Global};
 use std::test::Fail;

@@ -3,8 +3,9 @@
 use crate::images::{Contents, check_image, recording_image};
 use crate::tables::{GONE, PAST, References, TO_0, TO_5, TO_6, check_outcome, map, outcome};
 use qcow2_base::{Fault, HostCluster};
-use qcow2_calls::{edit_image, header_of};
+use qcow2_calls::header_of;
 use qcow2_session::Edit;
+use qcow2_session_calls::edit_image;
 use qcow2_testing::rows;
 use std::alloc::Global;
 use std::test::Fail;

@@ -10,11 +10,10 @@ use crate::sample_image::{COPIED, Numbers, counted, sample_image};
 use crate::tables::map;
 use Call::{EditImage, Line, LoadHeader, LookUp, LookUpImage, StepImage};
 use qcow2_base::{Fault, GuestOffset, HostCluster, MemStorage, Storage};
-use qcow2_calls::{
-    edit_image, header_of, load_header, load_table, lookup, lookup_image, step_image,
-};
+use qcow2_calls::{header_of, load_header, load_table};
 use qcow2_metadata::L1Table;
 use qcow2_session::{Edit, Step};
+use qcow2_session_calls::{edit_image, lookup, lookup_image, step_image};
 use qcow2_testing::{
     FailingStorage, StorageCall, each, part_of, put_bytes, row_error, rows, same, same_bytes,
 };

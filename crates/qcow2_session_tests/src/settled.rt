@@ -8,9 +8,10 @@ use crate::tables::{
 };
 use End::{Counted, Refused, Unchanged};
 use qcow2_base::{Fault, HostCluster, MemStorage};
-use qcow2_calls::{edit_image, edit_settled, header_of, load_block, settle, write_block};
+use qcow2_calls::{header_of, load_block, write_block};
 use qcow2_metadata::{Header, L2Table, RefBlock};
 use qcow2_session::{Edit, Outcome};
+use qcow2_session_calls::{edit_image, edit_settled, settle};
 use qcow2_testing::{each, put_bytes, rows, same, same_bytes};
 use std::alloc::{AllocError, Global};
 use std::test::Fail;

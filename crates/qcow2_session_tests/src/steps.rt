@@ -3,8 +3,8 @@
 use crate::blocks::{Counters, block_of, check_counters, check_replies};
 use StepReply::{Done, Refused};
 use qcow2_base::Fault;
-use qcow2_calls::step_block;
 use qcow2_session::{Step, StepReply};
+use qcow2_session_calls::step_block;
 use qcow2_testing::{each, rows};
 use std::alloc::{AllocError, Global};
 use std::test::Fail;

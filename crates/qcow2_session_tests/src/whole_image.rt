@@ -4,9 +4,10 @@
 use crate::sample_image::{COPIED, Numbers, sample_image};
 use crate::tables::map;
 use qcow2_base::{Fault, GuestOffset, HostCluster, MemStorage};
-use qcow2_calls::{edit_image, header_of, lookup_image};
+use qcow2_calls::header_of;
 use qcow2_metadata::L2Mapping;
 use qcow2_session::{Edit, Outcome};
+use qcow2_session_calls::{edit_image, lookup_image};
 use qcow2_testing::{each, part_of, row_error, rows, same};
 use std::alloc::Global;
 use std::test::Fail;

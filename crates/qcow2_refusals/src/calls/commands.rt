@@ -2,8 +2,8 @@
 
 use crate::held::Held;
 use qcow2_base::{Fault, Storage};
-use qcow2_calls::{parse_command, run};
 use qcow2_session::Command;
+use qcow2_session_calls::{parse_command, run};
 use std::alloc::{AllocError, Global};
 
 fn words_of(alloc: Global, line: &str) -> Result<Vec<String>, AllocError> {

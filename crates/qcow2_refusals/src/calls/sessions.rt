@@ -3,11 +3,11 @@
 use super::tell;
 use crate::held::{BLOCK, Held, TABLES};
 use qcow2_base::{Fault, GuestOffset, HostCluster, Storage};
-use qcow2_calls::{
+use qcow2_session::{Edit, GuestEdit, Step};
+use qcow2_session_calls::{
     apply_edits, edit_image, edit_settled, edit_table, lookup, lookup_image, plan_edits,
     step_block, step_image,
 };
-use qcow2_session::{Edit, GuestEdit, Step};
 use qcow2_testing::rows;
 
 // Edits of a table in memory, and of the first and the last entry of one of 65536 bytes.

@@ -7,14 +7,15 @@ use crate::runs::PlacedCall::{Load, Write, WriteEntry, WriteIfModified};
 use crate::runs::{Kind, PlacedCall};
 use qcow2_base::{ClusterCount, Fault, GuestCluster, HostCluster, HostOffset, MemStorage};
 use qcow2_calls::{
-    discard_cluster, edits_fit, enter_l2_table, enter_refblock, header_of, least_spare,
-    map_cluster, set_block_cluster, set_cluster, set_l1_copied, set_l1_table, set_l2_copied,
-    set_reftable, settle, zero_cluster,
+    discard_cluster, enter_l2_table, enter_refblock, header_of, least_spare, map_cluster,
+    set_block_cluster, set_cluster, set_l1_copied, set_l1_table, set_l2_copied, set_reftable,
+    zero_cluster,
 };
 use qcow2_metadata::{
     ClustersToFreeEntry, Header, L1Table, L2Table, RefBlock, RefTable, Table, TableEntry,
 };
 use qcow2_session::{Edit, Outcome};
+use qcow2_session_calls::{edits_fit, settle};
 use qcow2_testing::{fits, image_with, rows};
 use std::alloc::Global;
 

@@ -1,12 +1,16 @@
 -- What does a run of a command come to over the file of a path, and that of a line of words?
-use Rattle.std.specs.Prelude.{◌≡◌, ◌<◌, ◌≤◌, ◌⊎◌, ℕ, false, if◌then◌else◌, IsTrue, Option, Some, None, IfSome, IsSomeAnd, Result, Err, IsErrAnd, MatchResult}
+use Rattle.std.specs.Prelude.{◌≡◌, ◌<◌, ◌≤◌, ◌⊎◌, ℕ, false, if◌then◌else◌, IsTrue, List, Option, Some, None, IfSome, option_map, Result, Ok, Err, IsErrAnd, MatchResult}
 use Rattle.std.specs.Io.KnownBytes.{Keeps}
+use Rattle.qcow2_base.specs.Storage.{Image, OnImage, OnlyReads, StorageState}
 use Rattle.qcow2_base.specs.Storage.File.{state_over}
 use Rattle.qcow2_base.specs.Storage.ImageFile.{FileContent, OnFile}
 use Rattle.qcow2_base.specs.Storage.ImageFiles.{ChangesOne, PathFile}
 use Rattle.qcow2_base.specs.declared.fault.Fault.{Fault}
 use Rattle.qcow2_base.specs.declared.fault.Fault.TheVariants.{BadEdit, NoMemory, Storage}
+use Rattle.qcow2_check.specs.Findings.{IsCheckFault}
 use Rattle.qcow2_metadata.specs.Header.{HeaderRecord, uses_external_data}
+use Rattle.qcow2_metadata.specs.Results.{IsFromOutside, unless_refused}
+use Rattle.qcow2_repair.specs.FileEnd.{tables_in_file}
 use Rattle.qcow2_session.specs.Commands.{facts_of}
 use Rattle.qcow2_session.specs.Commands.Apply.{first_unfit_in_file}
 use Rattle.qcow2_session.specs.Commands.Printing.{OutputBytes, Run}
@@ -15,48 +19,66 @@ use Rattle.qcow2_session.specs.Commands.Running.{AfterHeader, EndsAndFlushes}
 use Rattle.qcow2_session.specs.Commands.Verdict.{status_of_verdict}
 use Rattle.qcow2_session.specs.Commands.Words.{Word}
 use Rattle.qcow2_session.specs.declared.commands.Command.{Command}
-use Rattle.qcow2_session.specs.declared.commands.Command.TheVariants.{Apply}
+use Rattle.qcow2_session.specs.declared.commands.Command.TheVariants.{Apply, Check}
+use Rattle.qcow2_session.specs.declared.commands.apply.DiskEdit.{DiskEdit}
+use Rattle.qcow2_session.specs.declared.commands.check.CheckForm.TheVariants.{Repair}
 use Rattle.qcow2_session.specs.declared.commands.verdict.Verdict.{Verdict}
 
--- the position of the first edit that a command can't make in an image whose file has this length: one that doesn't fit the
--- disk, or maps a cluster past the file's end. With an external data file clusters lie elsewhere
-abbrev pub first_far : Command → HeaderRecord → ℕ → Option ℕ
-first_far (Apply form edits) header len =
-    if uses_external_data header then None else first_unfit_in_file len header edits
-first_far _ header _ = None
+-- why edits can't be made of a disk whose image has this header, in a file of this length: the position of the first that
+-- doesn't fit the disk, or maps a cluster past the file's end. With an external data file clusters lie elsewhere
+abbrev pub edits_in_file : HeaderRecord → ℕ → List DiskEdit → Result (Unit {0}) Fault
+edits_in_file header len edits = if uses_external_data header then Ok tt
+    else unless_refused (option_map BadEdit (first_unfit_in_file len header edits)) (Ok tt)
 
--- where the file is known, none of a command's edits is such a one
-abbrev pub AreNear : FileContent → Command → HeaderRecord → Type 0
-AreNear file command header = OnFile file (first_far command header file.len ≡ None)
+-- why a command doesn't go with an image with this header in a file of this length, if it doesn't: an edit of the disk is bad,
+-- or a repair would go by a table that the file doesn't have
+abbrev pub command_in_file : Command → HeaderRecord → ℕ → Image → Result (Unit {0}) Fault
+command_in_file (Apply form edits) header len image = edits_in_file header len edits
+command_in_file (Check Repair) header len image = tables_in_file len header image
+command_in_file _ header len image = Ok tt
 
--- the fault says the first edit that doesn't, by the length of the file: that of its bytes, where they are known
-abbrev pub IsFarEdit : FileContent → Command → HeaderRecord → Fault → Type 0
-IsFarEdit file command header fault = (len : ℕ) × OnFile file (len ≡ file.len)
-    × IsSomeAnd (first_far command header len) (λ position. fault ≡ BadEdit position)
+-- where the file is known, a command goes with an image in it
+abbrev pub FitsFile : FileContent → Command → HeaderRecord → StorageState → Type 0
+FitsFile file command header state = OnFile file (OnImage state (λ image.
+    command_in_file command header file.len image ≡ Ok tt))
+
+-- the faults of a command that doesn't, whatever the file: of some length the edits are refused, or of some tables a check is
+abbrev pub IsFileRefusal : Command → HeaderRecord → Fault → Type 0
+IsFileRefusal (Apply form edits) header fault = (len : ℕ) × (edits_in_file header len edits ≡ Err fault)
+IsFileRefusal (Check Repair) header fault = IsCheckFault header fault ⊎ IsFromOutside fault
+IsFileRefusal _ header fault = ⊥
+
+-- a command was refused by the length of its image's file: where that is known, because it doesn't go with it, or the fault
+-- came from outside
+pub record IsRefusedInFile (file : FileContent) (command : Command) (header : HeaderRecord) (state : StorageState) (fault : Fault) : Type 0 where
+  pub refusal : IsFileRefusal command header fault
+  pub known : OnFile file (OnImage state (λ image.
+      IsFromOutside fault ⊎ (command_in_file command header file.len image ≡ Err fault)))
 
 -- how long the file of a command's image is, if that is a regular one, as far as the command asks
 abbrev pub IsLengthFor : FileContent → Command → Option ℕ → Type 0
 IsLengthFor file (Apply form edits) found = OnFile file (found ≡ Some file.len)
+IsLengthFor file (Check Repair) found = OnFile file (found ≡ Some file.len)
 IsLengthFor file _ found = found ≡ None
 
--- a comparison of a command's edits with the length of the image's file ended in this answer
-abbrev pub ComparesWithFile : {T : Type 0} → FileContent → Command → HeaderRecord → Result T Fault → Type 0
-ComparesWithFile file command header answer = MatchResult answer
-    (λ _. AreNear file command header)
-    (λ fault. IsFarEdit file command header fault)
+-- a comparison of a command with the length of the image's file ended in this answer
+abbrev pub ComparesWithFile : {T : Type 0} → FileContent → Command → HeaderRecord → StorageState → Result T Fault → Type 0
+ComparesWithFile file command header state answer = MatchResult answer
+    (λ _. FitsFile file command header state)
+    (λ fault. IsRefusedInFile file command header state fault)
 
 -- with its header a run stopped before its command: since memory ran out for pages, or by the fault of that comparison. From
--- there on it printed and changed nothing
+-- there on it printed nothing, and only read
 pub record StopsBefore {O : Type 0} (file : FileContent) (command : Command) (header : HeaderRecord) (run : Run Verdict O) : Type 0 where
   pub fault : IsErrAnd run.answer (λ fault. ((fault ≡ NoMemory) × IsTrue (facts_of command).reads_all_tables)
-      ⊎ IsFarEdit file command header fault)
-  pub bytes : run.new ≡ run.old
+      ⊎ IsRefusedInFile file command header run.old fault)
+  pub reads : OnlyReads run.answer run.old run.new
   pub output : run.after ≡ run.before
 
--- with its header a command stopped before it ran, or its edits are near and it ran
+-- with its header a command stopped before it ran, or it goes with the file and ran
 abbrev pub StopsOrEnds : {O : Type 0} → FileContent → Command → HeaderRecord → Run Verdict O → Type 0
 StopsOrEnds file command header run = StopsBefore file command header run
-    ⊎ (AreNear file command header × EndsAndFlushes (facts_of command) header run)
+    ⊎ (FitsFile file command header run.old × EndsAndFlushes (facts_of command) header run)
 
 -- a run of a command over a file that was `old`, which is `new` now: the file could not be measured or opened, or its header
 -- was looked for, and what the run left of the image is in the file

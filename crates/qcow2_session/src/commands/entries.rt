@@ -36,17 +36,19 @@ pub(super) fn print_entries<O: Write>(
         (table_lines label table.now.geometry l1_index table.now.numbers) }
 {
     let cluster_bits = table.cluster_bits();
+    let mut line = LineBuffer::new();
     for l2_index in 0..table.entries() {
         let guest_cluster = GuestCluster::from_l1_l2_indices(l1_index, l2_index, cluster_bits);
         let mapping = table.get_mapping(guest_cluster)?;
-        print_entry(guest_cluster, label, &mapping, cluster_bits, out)?;
+        print_entry(&mut line, guest_cluster, label, &mapping, cluster_bits, out)?;
     }
     Ok(())
 }
 
 // Prints the line of the entry of a guest cluster: its label, a space, and its mapping. An entry that is
-// left to the backing file has no line.
+// left to the backing file has no line. It is put together in a line whose bytes no longer matter.
 fn print_entry<O: Write>(
+    line: &mut LineBuffer,
     guest_cluster: GuestCluster,
     label: Label,
     mapping: &L2Mapping,
@@ -61,11 +63,11 @@ fn print_entry<O: Write>(
     if let L2Mapping::Backing { .. } = mapping {
         return Ok(());
     }
-    let mut line = LineBuffer::new();
+    line.clear();
     line.prepend("\n");
-    prepend_mapping(&mut line, mapping, cluster_bits);
+    prepend_mapping(line, mapping, cluster_bits);
     line.prepend(" ");
-    prepend_label(&mut line, label, guest_cluster, cluster_bits);
+    prepend_label(line, label, guest_cluster, cluster_bits);
     print(line.as_bytes(), out)
 }
 

@@ -2,6 +2,7 @@
 
 ghost use Rattle.std.specs.Prelude.{◌≡◌, ◌≤◌, ◌↔◌, None, Ok, Err, false, map, string_bytes, IsErr, IsOkUnless, IfOk, IfSome, OnErr, OnOk, MatchResult};
 ghost use Rattle.std.specs.Io.KnownBytes.{Keeps};
+ghost use Rattle.qcow2_base.specs.Storage.{OnlyReads};
 ghost use Rattle.qcow2_base.specs.Storage.File.{file_state};
 ghost use Rattle.qcow2_base.specs.Storage.ImageFile.{FileContent};
 ghost use Rattle.qcow2_base.specs.Storage.ImageFiles.{ChangesOne, FailsFor};
@@ -11,15 +12,15 @@ ghost use Rattle.qcow2_session.specs.Commands.Explain.{PrintsExplained, explaine
 ghost use Rattle.qcow2_session.specs.Commands.Help.{PrintsAsked, asked_text, text_of};
 ghost use Rattle.qcow2_session.specs.Commands.Printing.{AppendsPart, PrintsLast, run_over};
 ghost use Rattle.qcow2_session.specs.Commands.Report.{Reports, fault_line};
-ghost use Rattle.qcow2_session.specs.Commands.RunningOnFiles.{ComparesWithFile, IsLengthFor, RunsOnFile, RunsWords, StopsOrEnds};
+ghost use Rattle.qcow2_session.specs.Commands.RunningOnFiles.{ComparesWithFile, IsLengthFor, RunsOnFile, RunsWords, StopsOrEnds, edits_in_file};
 ghost use Rattle.qcow2_session.specs.Commands.Running.{AfterHeader, EndsAndFlushes, FindsHeader, IsHeaderFor, Runs};
 ghost use Rattle.qcow2_session.specs.Commands.Verdict.{fine_unless_failed, status_of_verdict};
 ghost use Rattle.qcow2_session.specs.declared.commands.verdict.Verdict.TheVariants.{Fine};
 
 use super::Command;
-use super::apply::{edit_disk, first_unfit_in_file};
+use super::apply::{DiskEdit, edit_disk, first_unfit_in_file};
 use super::at::print_mapping_at;
-use super::check::check_in_form;
+use super::check::{CheckForm, check_in_form};
 use super::count::count_references;
 use super::edit::edit_entries;
 use super::explain::Question;
@@ -37,6 +38,7 @@ use crate::lines::print;
 use qcow2_base::{Fault, FileStorage, ImageFile, ImageFiles, Storage};
 use qcow2_buffered::BufferedStorage;
 use qcow2_metadata::Header;
+use qcow2_repair::refuse_tables_past_end;
 use std::alloc::Global;
 use std::io;
 use std::io::Write;
@@ -202,11 +204,12 @@ fn status_of<E: Write>(ran: Result<Verdict, Fault>, err: &mut E) -> u8
 /// Opens the image of a path, for writing where the command may change it, runs the command over it, and
 /// closes it. What it prints is flushed, also before a fault. One that reads all tables reads them in pages.
 ///
-/// Returns 34 where the file can't be opened, or for `apply` its length can't be had; 35 where memory runs
-/// out for the pages. `apply` returns 32 and the position of the first edit that maps a cluster past the end
-/// of the image's file, where that is a regular one that has the data, or that doesn't fit the disk. After
-/// these nothing is printed, and the file is as it was, but for what the load of the header wrote. Else it
-/// returns what `run` does, and 34 where the flush fails. No other file changes, unless it is the same one.
+/// Returns 34 where the file can't be opened, or for `apply` and a repair its length can't be had; 35 where
+/// memory runs out for the pages. Where the image's file is a regular one, a repair returns what
+/// `refuse_tables_past_end` does. `apply` returns 32 there and the position of the first edit that doesn't
+/// fit the disk, or maps a cluster past the file's end, if the file has the data. After these nothing is
+/// printed, and the file is as it was, but for what the load of the header wrote. Else it returns what `run`
+/// does, and 34 where the flush fails. No other file changes, unless it is the same one.
 pub fn run_on_file<R: ImageFiles, O: Write>(
     alloc: Global,
     files: &mut R,
@@ -228,7 +231,7 @@ pub fn run_on_file<R: ImageFiles, O: Write>(
     ran
 }
 
-// How long the file of a path is, if it is a regular one and the command compares its edits with that.
+// How long the file of a path is, if it is a regular one and the command is compared with that.
 fn length_for<R: ImageFiles>(
     files: &mut R,
     path: &str,
@@ -240,7 +243,10 @@ fn length_for<R: ImageFiles>(
     ensures refused { OnErr result (FailsFor path.now (R.file_at files.old) (R.file_at files.new)) }
 {
     match command {
-        Command::Apply { .. } => files.image_len(path),
+        Command::Apply { .. }
+        | Command::Check {
+            form: CheckForm::Repair,
+        } => files.image_len(path),
         _ => Ok(None),
     }
 }
@@ -266,7 +272,7 @@ fn run_in_file<F: ImageFile, O: Write>(
         Ok(header) => header,
         Err(fault) => return (image, Err(fault)),
     };
-    if let Err(fault) = refuse_far_clusters(len, &header, command) {
+    if let Err(fault) = compare_with_file(alloc, &mut image, len, &header, command) {
         return (image, Err(fault));
     }
     if !command.reads_all_tables() {
@@ -282,22 +288,40 @@ fn run_in_file<F: ImageFile, O: Write>(
     }
 }
 
-// Refuses edits of a disk that map clusters past the end of the image's file, by 32 and the position of the
-// first that does, or that doesn't fit the disk. What isn't a regular file has no end that is known.
-fn refuse_far_clusters(len: Option<u64>, header: &Header, command: &Command) -> Result<(), Fault>
-    ensures { (file : FileContent) → IsLengthFor file command.now len →
-        ComparesWithFile file command.now header.now result }
+// Refuses a command that doesn't go with the length of the image's file, if that is known: what isn't a
+// regular file has no end that is.
+fn compare_with_file<S: Storage>(
+    alloc: Global,
+    image: &mut S,
+    len: Option<u64>,
+    header: &Header,
+    command: &Command,
+) -> Result<(), Fault>
+    ensures compares { (file : FileContent) → IsLengthFor file command.now len →
+        ComparesWithFile file command.now header.now (S.state image.old) result }
+    ensures reads { OnlyReads result (S.state image.old) (S.state image.new) }
 {
-    let Command::Apply { edits, .. } = command else {
-        return Ok(());
-    };
     let Some(len) = len else {
         return Ok(());
     };
+    match command {
+        Command::Apply { edits, .. } => refuse_far_clusters(header, edits.as_slice(), len),
+        Command::Check {
+            form: CheckForm::Repair,
+        } => refuse_tables_past_end(alloc, image, header, len),
+        _ => Ok(()),
+    }
+}
+
+// Refuses edits of a disk that map clusters past the end of the image's file, which has this length, by 32
+// and the position of the first that does, or that doesn't fit the disk.
+fn refuse_far_clusters(header: &Header, edits: &[DiskEdit], len: u64) -> Result<(), Fault>
+    ensures { result ≡ edits_in_file header.now len edits.now }
+{
     if header.external_data_file() {
         return Ok(());
     }
-    match first_unfit_in_file(header, edits.as_slice(), len) {
+    match first_unfit_in_file(header, edits, len) {
         Some(position) => Err(Fault::BadEdit(position)),
         None => Ok(()),
     }

@@ -62,10 +62,28 @@ pub(crate) fn print<W: Write>(bytes: &[u8], writer: &mut W) -> Result<(), Fault>
     Ok(())
 }
 
-/// Writes bytes until all are written or a write fails, and returns how many were.
+/// Writes bytes until all are written or a write fails, and returns how many were. Mostly one write takes
+/// all. Where there are none, none is made.
 #[inline]
 #[tactic(auto, using(crate::proofs::ReportLemmas::appends_more))]
 pub(crate) fn write_out<W: Write>(bytes: &[u8], writer: &mut W) -> usize
+    ensures bound { result ≤ length bytes.now }
+    ensures bytes { Appends (W.contents writer.old) (W.contents writer.new) (take result bytes.now) }
+{
+    if bytes.is_empty() {
+        return 0;
+    }
+    let (count, is_failed) = write_part(bytes, writer);
+    if is_failed || count == bytes.len() {
+        return count;
+    }
+    count + write_rest(&bytes[count..], writer)
+}
+
+// Writes bytes of which the first write didn't take all.
+#[inline(never)]
+#[tactic(auto, using(crate::proofs::ReportLemmas::appends_more))]
+fn write_rest<W: Write>(bytes: &[u8], writer: &mut W) -> usize
     ensures bound { result ≤ length bytes.now }
     ensures bytes { Appends (W.contents writer.old) (W.contents writer.new) (take result bytes.now) }
 {

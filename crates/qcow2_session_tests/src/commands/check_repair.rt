@@ -2,7 +2,7 @@
 
 use super::check::{
     COUNTERS, COUNTERS_4, COUNTERS_8, DATA, EXTERNAL, LARGE_COUNTERS, LARGER, LATE_LINES,
-    LATE_TABLES, NEXT_ENTRY, NEXT_TABLE, TABLE, THIRD_ENTRY, TWO_TABLES, ended_by,
+    LATE_TABLES, NEXT_ENTRY, NEXT_TABLE, TABLE, TABLE_ENTRY, THIRD_ENTRY, TWO_TABLES, ended_by,
 };
 use super::run::Ended::Failed;
 use super::whole_images::{RUN, Run, check_run};
@@ -73,6 +73,12 @@ const REPAIRED: &[Repaired] = rows! {
         }, ..CONSISTENT },
     Repaired { name: "the late flag of data in another file", before: counted! { EXTERNAL, DATA },
         after: counted! { EXTERNAL, (COUNTERS_4, 0x0001_0000_0000_0000), BLOCK_END }, ..CONSISTENT },
+    // tables in the last cluster of a file that ends within it
+    Repaired { name: "an L2 table that the file's end cuts",
+        before: counted! { LARGER, TWO_TABLES, (NEXT_TABLE, COPIED + 0xc00), (0xc00, 0) },
+        after: counted! {
+            LARGER, TWO_TABLES, (NEXT_TABLE, COPIED + 0xc00), (0xc00, 0), (COUNTERS_4, 0x0001_0001_0001_0000)
+        }, ..CONSISTENT },
     // what no block counts stays
     Repaired { name: "no block", before: counted! { TABLE, (REFTABLE, 0) },
         after: counted! { TABLE, (REFTABLE, 0) }, verdict: Verdict::Harmful,
@@ -118,8 +124,39 @@ const NO_ROOM: Numbers<'static> = counted! {
     (8, 1), (16, 0x0000_0002_0000_0009), AUTOCLEAR, (96, 0x0000_0004_0000_01f8),
 };
 
+// Tables past the file's end. The file has five clusters, the last of which is cut, or the number that a row
+// says.
+const PAST_END: &[Refused] = rows! { Refused:
+    { name: "an L2 table", before: counted! { AUTOCLEAR, (TABLE_ENTRY, COPIED + 0x1_0000) },
+        reported: PLACE },
+    { name: "an L2 table right after a file of six clusters",
+        before: counted! { LARGER, TWO_TABLES, (NEXT_TABLE, COPIED + 0xc00), (0xa00 + 504, 0) },
+        reported: PLACE },
+    { name: "a block", before: counted! { (REFTABLE + 8, 0x1_0000) }, reported: PLACE },
+    { name: "the second cluster of the refcount table, after six",
+        before: counted! { (48, 0xa00), (56, 2 << 32), (0xa00, 0x800) }, reported: PLACE },
+    { name: "the second cluster of the L1 table, after six",
+        before: counted! { (32, 65), (40, 0xa00), (0xa00, 0) }, reported: PLACE },
+    { name: "the L1 table", before: counted! { (40, 0xa00) }, reported: PLACE },
+    // what a check refuses first
+    { name: "snapshots and an L2 table",
+        before: counted! { (56, 1 << 32 | 1), (TABLE_ENTRY, COPIED + 0x1_0000) }, reported: UNCOUNTED },
+    { name: "a bad L1 entry and an L2 table",
+        before: counted! { LARGER, TWO_TABLES, (TABLE_ENTRY, COPIED + 0x1_0000), (NEXT_TABLE, 1) },
+        reported: "qmeta: fault 18\n" },
+};
+
+const PLACE: &str = "qmeta: fault 21\n";
+
+const UNCOUNTED: &str = "qmeta: fault 37\n";
+
+#[test]
+fn a_table_past_the_end_of_the_file_is_refused(rt: HostRuntime) -> Result<(), Fail> {
+    check_refused(&rt, PAST_END)
+}
+
 const REFUSED: &[Refused] = rows! { Refused:
-    { name: "snapshots", before: counted! { (60, 1 << 32) }, reported: "qmeta: fault 37\n" },
+    { name: "snapshots", before: counted! { (60, 1 << 32) }, reported: UNCOUNTED },
     { name: "data in the L1 table", before: counted! { AUTOCLEAR, (NEXT_ENTRY, 0x200) },
         reported: OVERLAP },
     { name: "data in an L2 table", before: counted! { (NEXT_ENTRY, 0x400), (COUNTERS_8, 1) },
@@ -139,7 +176,11 @@ const OVERLAP: &str = "qmeta: fault 38\n";
 
 #[test]
 fn what_cannot_be_repaired_stays_as_it_is(rt: HostRuntime) -> Result<(), Fail> {
-    for row in REFUSED {
+    check_refused(&rt, REFUSED)
+}
+
+fn check_refused(rt: &HostRuntime, rows: &[Refused]) -> Result<(), Fail> {
+    for row in rows {
         let run = Run {
             line: "check IMAGE repair",
             before: row.before,
@@ -147,7 +188,7 @@ fn what_cannot_be_repaired_stays_as_it_is(rt: HostRuntime) -> Result<(), Fail> {
             after: row.before,
             ..RUN
         };
-        check_run(&rt, row.name, &run)?;
+        check_run(rt, row.name, &run)?;
     }
     Ok(())
 }

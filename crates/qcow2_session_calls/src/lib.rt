@@ -1,9 +1,11 @@
-//! Calls of lists of edits and of steps, of lookups, and of commands.
+//! The calls of `qcow2_session` without their clauses, as `qcow2_calls` has those of `qcow2_metadata`: lists
+//! of edits and of steps, lookups, and commands.
+#![tactic(auto)]
 
 ghost use Rattle.std.specs.Prelude.{◌≡◌, IsTrue};
 
-use crate::NOT_MADE;
 use qcow2_base::{Fault, GuestOffset, HostCluster, ImageFiles, Storage};
+use qcow2_calls::NOT_MADE;
 use qcow2_metadata::{Header, L1Table, L2Mapping, L2Table, RefBlock, Table};
 use qcow2_session::{
     ChangedClusters, Command, Edit, GuestEdit, Outcome, Plan, Step, StepReply, Verdict,

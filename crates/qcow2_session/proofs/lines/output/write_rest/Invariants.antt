@@ -1,7 +1,7 @@
 -- What is written is in the writer.
 use Rattle.std.proofs.Common.{◌≤◌, length, take}
 use Rattle.std.specs.Io.KnownBytes.{Appends}
-use Rattle.qcow2_session.proofs.lines.output.write_out.Given as goal
+use Rattle.qcow2_session.proofs.lines.output.write_rest.Given as goal
 
 abbrev pub invariant-loop : goal.invariant-loop
 invariant-loop g l = (l.written ≤ length l.bytes)
