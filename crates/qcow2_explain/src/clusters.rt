@@ -1,7 +1,8 @@
 //! The first cluster whose counter or whose uses refuse what a command does.
 
-ghost use Rattle.std.specs.Prelude.{◌≡◌};
-ghost use Rattle.qcow2_base.specs.Storage.{OnImage};
+ghost use Rattle.std.specs.Prelude.{IsErrOf};
+ghost use Rattle.qcow2_base.specs.Storage.{OnImage, ReadsFor};
+ghost use Rattle.qcow2_base.specs.declared.fault.Fault.TheVariants.{Storage as StorageFailed};
 ghost use Rattle.qcow2_check.specs.Counters.{IsKeptBlockOf};
 ghost use Rattle.qcow2_check.specs.Findings.{IsFindingsOf};
 
@@ -20,7 +21,7 @@ pub(super) fn cluster_refusal<S: Storage>(
     header: &Header,
     fault: Fault,
 ) -> Result<Option<Refusal>, Fault>
-    ensures unchanged { (S.state image.new).byte_at ≡ (S.state image.old).byte_at }
+    ensures storage { ReadsFor (IsErrOf result StorageFailed) (S.state image.old) (S.state image.new) }
 {
     let mut findings = Findings::new(alloc, image, header)?;
     match first_about(&mut findings, image, fault)? {
@@ -36,7 +37,7 @@ fn first_about<S: Storage>(
     fault: Fault,
 ) -> Result<Option<Finding>, Fault>
     requires { OnImage (S.state image.old) (λ bytes. IsFindingsOf bytes findings.old) }
-    ensures unchanged { (S.state image.new).byte_at ≡ (S.state image.old).byte_at }
+    ensures storage { ReadsFor (IsErrOf result StorageFailed) (S.state image.old) (S.state image.new) }
 {
     while let Some(finding) = findings.next(image)? {
         if is_about(fault, &finding) {
@@ -70,7 +71,7 @@ pub(super) fn shared_table_refusal<S: Storage>(
     image: &mut S,
     header: &Header,
 ) -> Result<Option<Refusal>, Fault>
-    ensures unchanged { (S.state image.new).byte_at ≡ (S.state image.old).byte_at }
+    ensures storage { ReadsFor (IsErrOf result StorageFailed) (S.state image.old) (S.state image.new) }
 {
     let l1_table = load_l1_table(alloc, image, header)?;
     let mut counters = Counters::new(alloc, image, header)?;
@@ -91,7 +92,7 @@ fn first_shared<S: Storage>(
 ) -> Result<Option<(usize, u64)>, Fault>
     requires { OnImage (S.state image.old) (λ bytes.
         IsKeptBlockOf counters.old.header bytes counters.old.block) }
-    ensures unchanged { (S.state image.new).byte_at ≡ (S.state image.old).byte_at }
+    ensures storage { ReadsFor (IsErrOf result StorageFailed) (S.state image.old) (S.state image.new) }
 {
     for l1_index in 0..l1_table.entries() {
         if let Some(cluster) = named_cluster(l1_table, l1_index) {

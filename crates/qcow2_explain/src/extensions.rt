@@ -1,6 +1,8 @@
 //! The header extensions that faults are about.
 
-ghost use Rattle.std.specs.Prelude.{◌≡◌};
+ghost use Rattle.std.specs.Prelude.{IsErrOf};
+ghost use Rattle.qcow2_base.specs.Storage.{ReadsFor};
+ghost use Rattle.qcow2_base.specs.declared.fault.Fault.TheVariants.{Storage as StorageFailed};
 
 use super::fields::read_number;
 use super::places::Place;
@@ -70,7 +72,7 @@ pub(super) fn extensions_of<S: Storage>(
     image: &mut S,
     fault: u64,
 ) -> Result<Vec<Place>, Fault>
-    ensures unchanged { (S.state image.new).byte_at ≡ (S.state image.old).byte_at }
+    ensures storage { ReadsFor (IsErrOf result StorageFailed) (S.state image.old) (S.state image.new) }
 {
     let cluster_bits = read_number(image, 20, 4)?;
     let header_length = read_number(image, 100, 4)?;
@@ -88,7 +90,7 @@ fn read_chain<S: Storage>(
     first: u64,
     end: u64,
 ) -> Result<Vec<Place>, Fault>
-    ensures unchanged { (S.state image.new).byte_at ≡ (S.state image.old).byte_at }
+    ensures storage { ReadsFor (IsErrOf result StorageFailed) (S.state image.old) (S.state image.new) }
 {
     let mut places = Vec::new(alloc);
     let mut offset = first;
@@ -106,7 +108,7 @@ fn read_chain<S: Storage>(
 }
 
 fn read_extension<S: Storage>(image: &mut S, offset: u64) -> Result<Extension, Fault>
-    ensures unchanged { (S.state image.new).byte_at ≡ (S.state image.old).byte_at }
+    ensures storage { ReadsFor (IsErrOf result StorageFailed) (S.state image.old) (S.state image.new) }
 {
     let extension_type = read_number(image, offset, 4)?;
     let length = read_number(image, offset.saturating_add(4), 4)?;
@@ -125,7 +127,7 @@ fn is_about<S: Storage>(
     extension: &Extension,
     end: u64,
 ) -> Result<bool, Fault>
-    ensures unchanged { (S.state image.new).byte_at ≡ (S.state image.old).byte_at }
+    ensures storage { ReadsFor (IsErrOf result StorageFailed) (S.state image.old) (S.state image.new) }
 {
     let is_format = extension.is(HeaderExtensionType::BackingFileFormat);
     let is_data_file = extension.is(HeaderExtensionType::ExternalDataFileName);
@@ -143,7 +145,7 @@ fn is_about<S: Storage>(
 
 // Whether the data of an extension is text. What is longer than the largest cluster is none.
 fn is_text<S: Storage>(alloc: Global, image: &mut S, extension: &Extension) -> Result<bool, Fault>
-    ensures unchanged { (S.state image.new).byte_at ≡ (S.state image.old).byte_at }
+    ensures storage { ReadsFor (IsErrOf result StorageFailed) (S.state image.old) (S.state image.new) }
 {
     let (begin, len) = (extension.data(), extension.length);
     if begin > LARGEST_CLUSTER || len > LARGEST_CLUSTER {

@@ -1,6 +1,8 @@
 //! The fields of the header that faults are about.
 
-ghost use Rattle.std.specs.Prelude.{◌≡◌};
+ghost use Rattle.std.specs.Prelude.{IsErrOf};
+ghost use Rattle.qcow2_base.specs.Storage.{ReadsFor};
+ghost use Rattle.qcow2_base.specs.declared.fault.Fault.TheVariants.{Storage as StorageFailed};
 
 use super::places::Place;
 use qcow2_base::{Fault, MAX_FILE_LENGTH, Storage};
@@ -195,7 +197,7 @@ pub(super) fn fields_of<S: Storage>(
     image: &mut S,
     topic: Topic,
 ) -> Result<Vec<Place>, Fault>
-    ensures unchanged { (S.state image.new).byte_at ≡ (S.state image.old).byte_at }
+    ensures storage { ReadsFor (IsErrOf result StorageFailed) (S.state image.old) (S.state image.new) }
 {
     let mut places = Vec::new(alloc);
     for field in fields_about(topic) {
@@ -206,7 +208,7 @@ pub(super) fn fields_of<S: Storage>(
 
 // A field with its value.
 fn read_field<S: Storage>(image: &mut S, field: Field) -> Result<Place, Fault>
-    ensures unchanged { (S.state image.new).byte_at ≡ (S.state image.old).byte_at }
+    ensures storage { ReadsFor (IsErrOf result StorageFailed) (S.state image.old) (S.state image.new) }
 {
     let value = read_number(image, field.offset, field.bytes)?;
     Ok(Place::Field(field, value))
@@ -215,7 +217,7 @@ fn read_field<S: Storage>(image: &mut S, field: Field) -> Result<Place, Fault>
 /// The number of 4 or 8 bytes of an image, from an offset on. Past the end of all images it is 0. Changes no
 /// byte.
 pub(super) fn read_number<S: Storage>(image: &mut S, offset: u64, bytes: u32) -> Result<u64, Fault>
-    ensures unchanged { (S.state image.new).byte_at ≡ (S.state image.old).byte_at }
+    ensures storage { ReadsFor (IsErrOf result StorageFailed) (S.state image.old) (S.state image.new) }
 {
     let mut buffer = [0u8; 8];
     if offset <= MAX_FILE_LENGTH - 8 {

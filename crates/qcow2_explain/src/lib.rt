@@ -7,6 +7,7 @@ mod fields;
 mod files;
 mod lines;
 mod locks;
+mod past_end;
 mod places;
 mod refusals;
 mod tables;

@@ -1,11 +1,13 @@
 //! Lines on where a fault is, in a file or in an image.
 
-ghost use Rattle.std.specs.Prelude.{◌≡◌};
+ghost use Rattle.std.specs.Prelude.{IsErrOf};
+ghost use Rattle.qcow2_base.specs.Storage.{ReadsFor};
+ghost use Rattle.qcow2_base.specs.declared.fault.Fault.TheVariants.{Storage as StorageFailed};
 
 use super::files::file_lines;
 use super::locks::lock_lines;
 use super::refusals::{Refusal, refusal_of};
-use qcow2_base::{Fault, FileStorage, Storage};
+use qcow2_base::{Fault, FileStorage, Storage, regular_len};
 use qcow2_buffered::BufferedStorage;
 use qcow2_metadata::Header;
 use std::alloc::{AllocError, Global};
@@ -50,15 +52,21 @@ fn locate_in_file<R: Files + AllocGlobal>(
     number: u64,
     path: &str,
 ) -> Result<String, Fault> {
+    let length = match number {
+        21 => regular_len(rt, path)?,
+        _ => None,
+    };
     let mut file = FileStorage::open(rt, path, false)?;
     match Header::load(rt.alloc(), &mut file, false) {
         Ok(header) => {
             let Ok(mut image) = BufferedStorage::new(rt.alloc(), file, header.cluster_size()) else {
                 return Err(Fault::NoMemory);
             };
-            locate_fault(rt.alloc(), &mut image, number, path)
+            locate_within(rt.alloc(), &mut image, number, path, length)
         }
-        Err(_) => locate_fault(rt.alloc(), &mut file, number, path),
+        Err(Fault::NoMemory) => Err(Fault::NoMemory),
+        Err(Fault::Storage) => Err(Fault::Storage),
+        Err(_) => locate_within(rt.alloc(), &mut file, number, path, length),
     }
 }
 
@@ -67,16 +75,30 @@ fn locate_in_file<R: Files + AllocGlobal>(
 /// first.
 ///
 /// Looks at the header, for 18 to 21 at all tables but those of snapshots, and for 30, 38 and 40 at counters
-/// too. Fails where the storage does or memory runs out. Changes no byte of the image.
+/// too. Changes no byte of the image. Returns fault 34 where a read of the image fails, and 35 where memory
+/// runs out.
 pub fn locate_fault<S: Storage>(
     alloc: Global,
     image: &mut S,
     number: u64,
     name: &str,
 ) -> Result<String, Fault>
-    ensures unchanged { (S.state image.new).byte_at ≡ (S.state image.old).byte_at }
+    ensures storage { ReadsFor (IsErrOf result StorageFailed) (S.state image.old) (S.state image.new) }
 {
-    let lines = match refusal_of(alloc, image, number)? {
+    locate_within(alloc, image, number, name, None)
+}
+
+// The same of an image in a file, whose length may be known.
+fn locate_within<S: Storage>(
+    alloc: Global,
+    image: &mut S,
+    number: u64,
+    name: &str,
+    length: Option<u64>,
+) -> Result<String, Fault>
+    ensures storage { ReadsFor (IsErrOf result StorageFailed) (S.state image.old) (S.state image.new) }
+{
+    let lines = match refusal_of(alloc, image, number, length)? {
         Some(refusal) => lines_of(alloc, number, name, &refusal)?,
         None => format!(in alloc; "in {name}: this image doesn't have this fault\n")?,
     };

@@ -37,6 +37,8 @@ pub(super) enum Place {
         counter: u64,
         uses: u64,
     },
+    /// The end of the image's file.
+    FileEnd(u64),
 }
 
 impl fmt::Display for Place {
@@ -78,6 +80,7 @@ impl fmt::Display for Place {
                 f,
                 "cluster {cluster}: its counter is {counter}, and it has {uses} uses"
             ),
+            Place::FileEnd(length) => write!(f, "the file ends at {length:#x}"),
         }
     }
 }

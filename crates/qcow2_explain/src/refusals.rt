@@ -1,10 +1,13 @@
 //! Why an image is refused, and where in it that is.
 
-ghost use Rattle.std.specs.Prelude.{◌≡◌};
+ghost use Rattle.std.specs.Prelude.{◌≡◌, IsErrOf};
+ghost use Rattle.qcow2_base.specs.Storage.{ReadsFor};
+ghost use Rattle.qcow2_base.specs.declared.fault.Fault.TheVariants.{Storage as StorageFailed};
 
 use super::clusters::{cluster_refusal, shared_table_refusal};
 use super::extensions::extensions_of;
 use super::fields::{Topic, fields_of};
+use super::past_end::past_end_refusal;
 use super::places::Place;
 use super::tables::table_refusal;
 use qcow2_base::{Fault, MemStorage, Storage, UncountedPart};
@@ -40,30 +43,56 @@ pub(super) fn is_of(refusal: &Option<Refusal>, number: u64) -> bool {
     }
 }
 
-/// Why an image is refused: by the fault of this number, where it is, or else by one that comes before. Fails
-/// only where memory runs out or the storage fails. Changes no byte.
+/// Why an image is refused: by the fault of this number, where it is, or else by one that comes before. Where
+/// the length of its file is known, 21 is also the fault of a table past the file's end. Fails only where
+/// memory runs out or the storage fails. Changes no byte.
 pub(super) fn refusal_of<S: Storage>(
     alloc: Global,
     image: &mut S,
     number: u64,
+    length: Option<u64>,
 ) -> Result<Option<Refusal>, Fault>
-    ensures unchanged { (S.state image.new).byte_at ≡ (S.state image.old).byte_at }
+    ensures storage { ReadsFor (IsErrOf result StorageFailed) (S.state image.old) (S.state image.new) }
 {
-    let header = match Header::load(alloc, image, false) {
-        Ok(header) => header,
-        Err(fault) => return Ok(Some(header_refusal(alloc, image, fault)?)),
-    };
-    let found = match number {
-        30 => cluster_refusal(alloc, image, &header, Fault::CounterRange),
-        38 => cluster_refusal(alloc, image, &header, Fault::Overlap),
-        40 => shared_table_refusal(alloc, image, &header),
-        _ => return plain_refusal(alloc, image, &header, number),
-    };
-    match found {
+    match Header::load(alloc, image, false) {
+        Ok(header) => image_refusal(alloc, image, &header, number, length),
+        Err(fault) => Ok(Some(header_refusal(alloc, image, fault)?)),
+    }
+}
+
+// The same of an image with this header.
+fn image_refusal<S: Storage>(
+    alloc: Global,
+    image: &mut S,
+    header: &Header,
+    number: u64,
+    length: Option<u64>,
+) -> Result<Option<Refusal>, Fault>
+    ensures storage { ReadsFor (IsErrOf result StorageFailed) (S.state image.old) (S.state image.new) }
+{
+    match refusal_by(alloc, image, header, number, length) {
         Err(Fault::NoMemory) => Err(Fault::NoMemory),
         Err(Fault::Storage) => Err(Fault::Storage),
-        Err(fault) => plain_refusal(alloc, image, &header, u64::from(fault.number())),
+        Err(fault) => plain_refusal(alloc, image, header, u64::from(fault.number()), length),
         Ok(refusal) => Ok(refusal),
+    }
+}
+
+// The same, or else the fault for which the uses of clusters can't be counted.
+fn refusal_by<S: Storage>(
+    alloc: Global,
+    image: &mut S,
+    header: &Header,
+    number: u64,
+    length: Option<u64>,
+) -> Result<Option<Refusal>, Fault>
+    ensures storage { ReadsFor (IsErrOf result StorageFailed) (S.state image.old) (S.state image.new) }
+{
+    match number {
+        30 => cluster_refusal(alloc, image, header, Fault::CounterRange),
+        38 => cluster_refusal(alloc, image, header, Fault::Overlap),
+        40 => shared_table_refusal(alloc, image, header),
+        _ => plain_refusal(alloc, image, header, number, length),
     }
 }
 
@@ -73,11 +102,12 @@ fn plain_refusal<S: Storage>(
     image: &mut S,
     header: &Header,
     number: u64,
+    length: Option<u64>,
 ) -> Result<Option<Refusal>, Fault>
-    ensures unchanged { (S.state image.new).byte_at ≡ (S.state image.old).byte_at }
+    ensures storage { ReadsFor (IsErrOf result StorageFailed) (S.state image.old) (S.state image.new) }
 {
     match number {
-        18..=21 => table_refusal(alloc, image, header, number),
+        18..=21 => refusal_of_tables(alloc, image, header, number, length),
         24 => room_refusal(alloc, image, header),
         27 if header.version() == 2 => by_fields(alloc, image, Fault::VersionNeeded),
         36 if header.external_data_file() => by_fields(alloc, image, Fault::ExternalData),
@@ -89,13 +119,32 @@ fn plain_refusal<S: Storage>(
     }
 }
 
+// The refusal of a table: as it is in the image, or else for 21 by the end of the image's file.
+fn refusal_of_tables<S: Storage>(
+    alloc: Global,
+    image: &mut S,
+    header: &Header,
+    number: u64,
+    length: Option<u64>,
+) -> Result<Option<Refusal>, Fault>
+    ensures storage { ReadsFor (IsErrOf result StorageFailed) (S.state image.old) (S.state image.new) }
+{
+    let refusal = table_refusal(alloc, image, header, number)?;
+    match length {
+        Some(length) if number == 21 && refusal.is_none() => {
+            past_end_refusal(alloc, image, header, length)
+        }
+        _ => Ok(refusal),
+    }
+}
+
 // The refusal of a header that has no room once it is written anew, as a copy of the first cluster shows.
 fn room_refusal<S: Storage>(
     alloc: Global,
     image: &mut S,
     header: &Header,
 ) -> Result<Option<Refusal>, Fault>
-    ensures unchanged { (S.state image.new).byte_at ≡ (S.state image.old).byte_at }
+    ensures storage { ReadsFor (IsErrOf result StorageFailed) (S.state image.old) (S.state image.new) }
 {
     let mut bytes = vec![in alloc; 0; header.cluster_size()]?;
     image.read(&mut bytes, 0)?;
@@ -109,7 +158,8 @@ fn room_refusal<S: Storage>(
 
 // Why a header is refused by a fault, unless memory ran out or the storage failed.
 fn header_refusal<S: Storage>(alloc: Global, image: &mut S, fault: Fault) -> Result<Refusal, Fault>
-    ensures unchanged { (S.state image.new).byte_at ≡ (S.state image.old).byte_at }
+    ensures storage { ReadsFor (IsErrOf result StorageFailed) (S.state image.old) (S.state image.new) }
+    ensures passed_on { fault ≡ StorageFailed → IsErrOf result StorageFailed }
 {
     let number = u64::from(fault.number());
     let places = match number {
@@ -126,7 +176,7 @@ fn by_fields<S: Storage>(
     image: &mut S,
     fault: Fault,
 ) -> Result<Option<Refusal>, Fault>
-    ensures unchanged { (S.state image.new).byte_at ≡ (S.state image.old).byte_at }
+    ensures storage { ReadsFor (IsErrOf result StorageFailed) (S.state image.old) (S.state image.new) }
 {
     let places = fields_of(alloc, image, Topic::Fault(u64::from(fault.number())))?;
     Ok(Some(Refusal { fault, places }))
@@ -138,7 +188,7 @@ fn by_part<S: Storage>(
     image: &mut S,
     part: UncountedPart,
 ) -> Result<Option<Refusal>, Fault>
-    ensures unchanged { (S.state image.new).byte_at ≡ (S.state image.old).byte_at }
+    ensures storage { ReadsFor (IsErrOf result StorageFailed) (S.state image.old) (S.state image.new) }
 {
     let fault = Fault::Uncounted(part);
     let places = match part {
@@ -152,7 +202,7 @@ fn by_part<S: Storage>(
 // Where an image says that it has encryption with keys in clusters: by extensions, or by a field where it has
 // none of these.
 fn places_of_keys<S: Storage>(alloc: Global, image: &mut S) -> Result<Vec<Place>, Fault>
-    ensures unchanged { (S.state image.new).byte_at ≡ (S.state image.old).byte_at }
+    ensures storage { ReadsFor (IsErrOf result StorageFailed) (S.state image.old) (S.state image.new) }
 {
     let extensions = extensions_of(alloc, image, 37)?;
     if extensions.is_empty() {

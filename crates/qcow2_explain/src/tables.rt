@@ -1,6 +1,8 @@
 //! The first table of an image that is refused, and the entry for which it is.
 
-ghost use Rattle.std.specs.Prelude.{◌≡◌};
+ghost use Rattle.std.specs.Prelude.{◌≡◌, IsErrOf};
+ghost use Rattle.qcow2_base.specs.Storage.{ReadsFor};
+ghost use Rattle.qcow2_base.specs.declared.fault.Fault.TheVariants.{Storage as StorageFailed};
 ghost use Rattle.qcow2_metadata.specs.Header.{geometry_of};
 
 use super::fields::{Topic, fields_of, read_number};
@@ -21,13 +23,13 @@ struct BadEntry {
     number: u64,
 }
 
-// A table of an image: its kind, where it begins, and how many entries it has.
+/// A table of an image: its kind, where it begins, and how many entries it has.
 #[derive(Clone, Copy)]
-struct TablePlace {
+pub(super) struct TablePlace {
     kind: &'static str,
     topic: Topic,
-    offset: u64,
-    entries: usize,
+    pub(super) offset: u64,
+    pub(super) entries: usize,
 }
 
 /// The refusal of a table in an image with this header: one by the fault of this number, if there is one, or
@@ -39,12 +41,9 @@ pub(super) fn table_refusal<S: Storage>(
     header: &Header,
     number: u64,
 ) -> Result<Option<Refusal>, Fault>
-    ensures unchanged { (S.state image.new).byte_at ≡ (S.state image.old).byte_at }
+    ensures storage { ReadsFor (IsErrOf result StorageFailed) (S.state image.old) (S.state image.new) }
 {
-    let of_guest = match load_l1_table(alloc, image, header) {
-        Ok(l1_table) => l2_refusal(alloc, image, header, &l1_table, number)?,
-        Err(fault) => Some(l1_refusal(alloc, image, header, fault)?),
-    };
+    let of_guest = guest_refusal(alloc, image, header, number)?;
     if is_of(&of_guest, number) {
         return Ok(of_guest);
     }
@@ -55,6 +54,21 @@ pub(super) fn table_refusal<S: Storage>(
     Ok(of_counters)
 }
 
+// Why the L1 table is refused, or one of the L2 tables that it names.
+fn guest_refusal<S: Storage>(
+    alloc: Global,
+    image: &mut S,
+    header: &Header,
+    number: u64,
+) -> Result<Option<Refusal>, Fault>
+    ensures storage { ReadsFor (IsErrOf result StorageFailed) (S.state image.old) (S.state image.new) }
+{
+    match load_l1_table(alloc, image, header) {
+        Ok(l1_table) => l2_refusal(alloc, image, header, &l1_table, number),
+        Err(fault) => Ok(Some(l1_refusal(alloc, image, header, fault)?)),
+    }
+}
+
 // Why the L1 table is refused by a fault.
 fn l1_refusal<S: Storage>(
     alloc: Global,
@@ -62,15 +76,30 @@ fn l1_refusal<S: Storage>(
     header: &Header,
     fault: Fault,
 ) -> Result<Refusal, Fault>
-    ensures unchanged { (S.state image.new).byte_at ≡ (S.state image.old).byte_at }
+    ensures storage { ReadsFor (IsErrOf result StorageFailed) (S.state image.old) (S.state image.new) }
+    ensures passed_on { fault ≡ StorageFailed → IsErrOf result StorageFailed }
 {
-    let table = TablePlace {
+    refusal_at::<S, L1Entry>(alloc, image, header, fault, &l1_place(header))
+}
+
+/// The L1 table of an image with this header.
+pub(super) fn l1_place(header: &Header) -> TablePlace {
+    TablePlace {
         kind: "L1",
         topic: Topic::L1Table,
         offset: header.l1_table_offset().0,
         entries: header.l1_table_entries(),
-    };
-    refusal_at::<S, L1Entry>(alloc, image, header, fault, &table)
+    }
+}
+
+/// The refcount table of an image with this header.
+pub(super) fn reftable_place(header: &Header) -> TablePlace {
+    TablePlace {
+        kind: "refcount table",
+        topic: Topic::RefTable,
+        offset: header.reftable_offset().0,
+        entries: header.reftable_entries(),
+    }
 }
 
 // Why the refcount table is refused, or one of its blocks.
@@ -79,18 +108,16 @@ fn reftable_refusal<S: Storage>(
     image: &mut S,
     header: &Header,
 ) -> Result<Option<Refusal>, Fault>
-    ensures unchanged { (S.state image.new).byte_at ≡ (S.state image.old).byte_at }
+    ensures storage { ReadsFor (IsErrOf result StorageFailed) (S.state image.old) (S.state image.new) }
 {
-    let table = TablePlace {
-        kind: "refcount table",
-        topic: Topic::RefTable,
-        offset: header.reftable_offset().0,
-        entries: header.reftable_entries(),
-    };
     match load_reftable(alloc, image, header) {
-        Ok(reftable) => Ok(block_refusal(alloc, header, &reftable, &table)?),
+        Ok(reftable) => Ok(block_refusal(alloc, header, &reftable)?),
         Err(fault) => Ok(Some(refusal_at::<S, RefTableEntry>(
-            alloc, image, header, fault, &table,
+            alloc,
+            image,
+            header,
+            fault,
+            &reftable_place(header),
         )?)),
     }
 }
@@ -103,7 +130,8 @@ fn refusal_at<S: Storage, E: TableEntry>(
     fault: Fault,
     table: &TablePlace,
 ) -> Result<Refusal, Fault>
-    ensures unchanged { (S.state image.new).byte_at ≡ (S.state image.old).byte_at }
+    ensures storage { ReadsFor (IsErrOf result StorageFailed) (S.state image.old) (S.state image.new) }
+    ensures passed_on { fault ≡ StorageFailed → IsErrOf result StorageFailed }
 {
     let places = match fault {
         Fault::EntryReserved | Fault::EntryUnaligned => {
@@ -132,7 +160,7 @@ fn first_bad<S: Storage, E: TableEntry>(
     begin: u64,
     entries: usize,
 ) -> Result<Option<BadEntry>, Fault>
-    ensures unchanged { (S.state image.new).byte_at ≡ (S.state image.old).byte_at }
+    ensures storage { ReadsFor (IsErrOf result StorageFailed) (S.state image.old) (S.state image.new) }
 {
     for index in 0..entries {
         let offset = entry_offset(begin, index);
@@ -157,7 +185,7 @@ fn l2_refusal<S: Storage>(
     number: u64,
 ) -> Result<Option<Refusal>, Fault>
     requires { l1_table.now.geometry ≡ geometry_of header.now }
-    ensures unchanged { (S.state image.new).byte_at ≡ (S.state image.old).byte_at }
+    ensures storage { ReadsFor (IsErrOf result StorageFailed) (S.state image.old) (S.state image.new) }
 {
     let mut first = None;
     for l1_index in 0..l1_table.entries() {
@@ -178,7 +206,7 @@ fn l2_refusal_at<S: Storage>(
     l1_table: &L1Table,
     l1_index: usize,
 ) -> Result<Option<Refusal>, Fault>
-    ensures unchanged { (S.state image.new).byte_at ≡ (S.state image.old).byte_at }
+    ensures storage { ReadsFor (IsErrOf result StorageFailed) (S.state image.old) (S.state image.new) }
 {
     let Some(cluster) = named_cluster(l1_table, l1_index) else {
         return Ok(None);
@@ -212,23 +240,50 @@ fn block_refusal(
     alloc: Global,
     header: &Header,
     reftable: &RefTable,
-    table: &TablePlace,
 ) -> Result<Option<Refusal>, AllocError> {
-    for index in 0..reftable.entries() {
-        let block = named_block(reftable, index);
-        if block.is_some_and(|block| block.0 >= MAX_FILE_LENGTH >> header.cluster_bits()) {
-            let bad = BadEntry {
-                index,
-                offset: entry_offset(table.offset, index),
-                number: reftable.get(index).to_plain(),
-            };
-            return Ok(Some(Refusal::at(alloc, Fault::TablePlace, entry_place(table, &bad))?));
-        }
+    match block_from(header, reftable, MAX_FILE_LENGTH >> header.cluster_bits()) {
+        Some(place) => Ok(Some(Refusal::at(alloc, Fault::TablePlace, place)?)),
+        None => Ok(None),
     }
-    Ok(None)
 }
 
-fn places_of(alloc: Global, place: Option<Place>) -> Result<Vec<Place>, AllocError> {
+/// The first entry of a refcount table that names a block in one of the clusters from this one on.
+pub(super) fn block_from(header: &Header, reftable: &RefTable, cluster: u64) -> Option<Place> {
+    for index in 0..reftable.entries() {
+        let block = named_block(reftable, index);
+        if block.is_some_and(|block| block.0 >= cluster) {
+            let number = reftable.get(index).to_plain();
+            return Some(pointer_place(&reftable_place(header), index, number));
+        }
+    }
+    None
+}
+
+/// The first entry of an L1 table that names an L2 table in one of the clusters from this one on.
+pub(super) fn l2_table_from(header: &Header, l1_table: &L1Table, cluster: u64) -> Option<Place> {
+    for index in 0..l1_table.entries() {
+        let l2_table = named_cluster(l1_table, index);
+        if l2_table.is_some_and(|l2_table| l2_table.0 >= cluster) {
+            let number = l1_table.get(index).to_plain();
+            return Some(pointer_place(&l1_place(header), index, number));
+        }
+    }
+    None
+}
+
+// The place of the entry of a table at an index, which is this number.
+fn pointer_place(table: &TablePlace, index: usize, number: u64) -> Place {
+    let offset = entry_offset(table.offset, index);
+    let entry = BadEntry {
+        index,
+        offset,
+        number,
+    };
+    entry_place(table, &entry)
+}
+
+/// A place as a list of places, or an empty list where there is none.
+pub(super) fn places_of(alloc: Global, place: Option<Place>) -> Result<Vec<Place>, AllocError> {
     let mut places = Vec::new(alloc);
     if let Some(place) = place {
         places.push(place)?;

@@ -137,6 +137,10 @@ const TABLE_PLACE: &str = "\
 fault 21, TablePlace: A table or a refcount block must end at or below offset 2^56.
 An offset in the header or in a table is damaged, or a CLUSTER on the command line is too large.
 Look at the number that was given, or restore the header or the table from a copy.
+`check IMAGE repair` ends so too where a cluster of a table or block begins at or past the end of
+the image's file: it reads as zeros, and a repair would free all that the real one names.
+Copy the image first, and run `qemu-img check`. `explain 21 IMAGE` says which table that is: look
+whether the file was cut, or what names the table is damaged.
 ";
 
 const NO_OFFSET: &str = "\

@@ -8,20 +8,22 @@ use crate::commands::whole_images::INFO;
 use crate::failing_output::{FailingOutput, Failure};
 use crate::sample_image::{COPIED, Numbers, counted, sample_image};
 use crate::tables::map;
-use Call::{EditImage, Line, LoadHeader, LookUp, LookUpImage, StepImage};
+use Call::{EditImage, Line, LoadHeader, Locate, LookUp, LookUpImage, StepImage};
 use qcow2_base::{Fault, GuestOffset, HostCluster, MemStorage, Storage};
 use qcow2_calls::{header_of, load_header, load_table};
 use qcow2_metadata::L1Table;
+use qcow2_session::commands::locate_fault;
 use qcow2_session::{Edit, Step};
 use qcow2_session_calls::{edit_image, lookup, lookup_image, step_image};
 use qcow2_testing::{
     FailingStorage, StorageCall, each, part_of, put_bytes, row_error, rows, same, same_bytes,
 };
 use std::alloc::Global;
+use std::io::Write;
 use std::test::Fail;
 
 // A call over an image: a load for writing, one of the table or block in cluster 2, one of an offset by the
-// L1 table in cluster 1 or by the whole image, or the command of a line.
+// L1 table in cluster 1 or by the whole image, a search for the place of a fault, or the command of a line.
 #[derive(Clone, Copy, Debug)]
 enum Call {
     LoadHeader,
@@ -29,6 +31,7 @@ enum Call {
     StepImage(&'static [Step]),
     LookUp(GuestOffset),
     LookUpImage(GuestOffset),
+    Locate(u64),
     Line(&'static str),
 }
 
@@ -106,6 +109,47 @@ const ROWS: &[Row] = rows! {
         after: COUNTED, printed: COUNTS, again: COUNTS_AGAIN, twice: COUNTED_TWICE, ..ROW },
 };
 
+// The place of a fault is looked for after the header, and before it's printed no byte is written.
+const PLACES: &[Row] = rows! {
+    // a text: three fields, two extensions by two reads each, and the data of the first
+    Row { call: Locate(13), before: NO_TEXT, calls: 2 + 3 + 2 * 2 + 1, after: NO_TEXT,
+        printed: "in IMAGE: byte 104: extension 0xe2792aca of 1 bytes\n", ..ROW },
+    // a header whose name is before its fields takes three reads; then its cluster, and two fields
+    Row { call: Locate(24), before: NO_ROOM, calls: 3 + 1 + 2, after: NO_ROOM,
+        printed: "in IMAGE: byte 88: autoclear_features is 0x1\n\
+            in IMAGE: byte 16: backing_file_size is 2\n", ..ROW },
+    // the L1 table and the L2 table, and two entries of the latter
+    Row { call: Locate(18), before: BAD_ENTRY, calls: 2 + 2 + 2, after: BAD_ENTRY,
+        printed: "in IMAGE: guest offset 0x200, L2 entry at 0x408: 0000000000000002\n", ..ROW },
+    // these tables and the refcount table, and two entries of that
+    Row { call: Locate(18), before: BAD_BLOCK, calls: 2 + 3 + 2, after: BAD_BLOCK,
+        printed: "in IMAGE: refcount table entry 1, bytes at 0x608: 0000000000000801\n", ..ROW },
+    // the three tables and the block
+    Row { call: Locate(30), before: LOW_COUNTER, calls: 2 + 3 + 1, after: LOW_COUNTER,
+        printed: "in IMAGE: cluster 5: its counter is 0, and it has 1 uses\n", ..ROW },
+    // the L1 table, the refcount table and the block
+    Row { call: Locate(40), before: NOT_COPIED, calls: 2 + 3, after: NOT_COPIED,
+        printed: "in IMAGE: L1 entry 0, bytes at 0x200: 0000000000000400, and its table's counter is 1\n",
+        ..ROW },
+};
+
+const NO_TEXT: Numbers<'static> = &[(104, 0xe279_2aca_0000_0001), (112, 0xff << 56)];
+
+const NO_ROOM: Numbers<'static> = &[
+    (8, 1),
+    (16, 0x0000_0002_0000_0009),
+    (88, 1),
+    (96, 0x0000_0004_0000_01f8),
+];
+
+const BAD_ENTRY: Numbers<'static> = &[(1032, 2)];
+
+const BAD_BLOCK: Numbers<'static> = counted! { (0x608, 0x801) };
+
+const LOW_COUNTER: Numbers<'static> = counted! { (0x808, 0x0001_0000_0000_0000) };
+
+const NOT_COPIED: Numbers<'static> = counted! { (512, 0x400) };
+
 const COUNTS: &str = "ok 0\nok 1\nok 2\nrefused\n";
 
 const COUNTS_AGAIN: &str = "ok 1\nok 2\nok 3\nrefused\n";
@@ -144,12 +188,28 @@ fn make(
     image: &mut FailingStorage<MemStorage>,
     out: &mut FailingOutput,
 ) -> Result<Result<(), Fault>, Fail> {
-    let Line(line) = row.call else {
-        return Ok(make_call(alloc, row, image));
+    let line = match row.call {
+        Line(line) => line,
+        Locate(fault) => return Ok(locate(alloc, image, fault, out)),
+        _ => return Ok(make_call(alloc, row, image)),
     };
     match run_command(alloc, image, line, out)? {
         Some(answer) => Ok(answer.map(|_| ())),
         None => Err(row_error(line)),
+    }
+}
+
+// Prints where in an image a fault is.
+fn locate<S: Storage>(
+    alloc: Global,
+    image: &mut S,
+    fault: u64,
+    out: &mut FailingOutput,
+) -> Result<(), Fault> {
+    let lines = locate_fault(alloc, image, fault, "IMAGE")?;
+    match out.write_all(lines.as_bytes()) {
+        Ok(()) => Ok(()),
+        Err(_) => Err(Fault::Storage),
     }
 }
 
@@ -163,7 +223,7 @@ fn make_call(alloc: Global, row: Row, image: &mut FailingStorage<MemStorage>) ->
         StepImage(steps) => step_image(alloc, image, &header, cluster, steps).map(|_| ()),
         LookUp(offset) => look_up(alloc, image, offset),
         LookUpImage(offset) => lookup_image(alloc, image, offset).map(|_| ()),
-        Line(_) => Err(Fault::WrongLength),
+        Line(_) | Locate(_) => Err(Fault::WrongLength),
     }
 }
 
@@ -199,6 +259,11 @@ fn a_refused_call_of_the_storage_leaves_what_was_written_before_it(
     rt: HostRuntime,
 ) -> Result<(), Fail> {
     each(rt.alloc(), all_rows(), check_calls)
+}
+
+#[test]
+fn a_refused_read_ends_the_search_for_a_fault(rt: HostRuntime) -> Result<(), Fail> {
+    each(rt.alloc(), PLACES, check_calls)
 }
 
 fn all_rows() -> &'static [Row] {

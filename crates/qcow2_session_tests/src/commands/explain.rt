@@ -6,7 +6,9 @@ use super::whole_images::sample_file;
 use crate::failing_output::Failure::{Flush, Never, Short, WriteAfter};
 use crate::sample_image::{COPIED, Numbers, check_sample, counted, sample_image};
 use qcow2_session::commands::locate_fault;
-use qcow2_testing::{FaultyFiles, each, rows, same, same_bytes};
+use qcow2_testing::{
+    FaultyFiles, TemporaryFile, each, part_of, rows, same, same_bytes, temporary_file,
+};
 use std::alloc::Global;
 use std::fs;
 use std::test::Fail;
@@ -259,4 +261,94 @@ fn a_failing_output_keeps_a_beginning_of_the_text(rt: HostRuntime) -> Result<(),
         )?;
     }
     Ok(())
+}
+
+// The first bytes of the file of a sample image with changes, and the lines on fault 21.
+#[derive(Clone, Copy)]
+struct Cut {
+    before: Numbers<'static>,
+    len: usize,
+    lines: &'static str,
+}
+
+const PAST_END: &[Cut] = rows! { Cut:
+    // an L1 table in two clusters
+    { before: counted!((32, 65)), len: 0x400,
+        lines: "in IMAGE: byte 36: l1_size is 65\nin IMAGE: byte 40: l1_table_offset is 0x200\n\
+            in IMAGE: the file ends at 0x400\n" },
+    // the L2 table lies there too
+    { before: counted! {}, len: 0x400,
+        lines: "in IMAGE: byte 56: refcount_table_clusters is 1\n\
+            in IMAGE: byte 48: refcount_table_offset is 0x600\nin IMAGE: the file ends at 0x400\n" },
+    { before: counted! {}, len: 0x600,
+        lines: "in IMAGE: byte 56: refcount_table_clusters is 1\n\
+            in IMAGE: byte 48: refcount_table_offset is 0x600\nin IMAGE: the file ends at 0x600\n" },
+    // a refcount table whose cluster is cut after the entry of the block
+    { before: counted! {}, len: 0x608,
+        lines: "in IMAGE: refcount table entry 0, bytes at 0x600: 0000000000000800\n\
+            in IMAGE: the file ends at 0x608\n" },
+    { before: counted! {}, len: 0x800,
+        lines: "in IMAGE: refcount table entry 0, bytes at 0x600: 0000000000000800\n\
+            in IMAGE: the file ends at 0x800\n" },
+    { before: counted! {}, len: 0x801, lines: "in IMAGE: this image doesn't have this fault\n" },
+    { before: counted!((512, COPIED + 0x1_0000)), len: 0x810,
+        lines: "in IMAGE: L1 entry 0, bytes at 0x200: 8000000000010000\n\
+            in IMAGE: the file ends at 0x810\n" },
+    { before: counted!((512, COPIED + 0x401)), len: 0x600,
+        lines: "in IMAGE: another fault comes first, 18\n\
+            in IMAGE: L1 entry 0, bytes at 0x200: 8000000000000401\n" },
+};
+
+#[test]
+fn a_table_past_the_end_of_its_file_is_where_it_is_named(rt: HostRuntime) -> Result<(), Fail> {
+    for row in PAST_END {
+        check_cut(&rt, *row)?;
+    }
+    Ok(())
+}
+
+fn check_cut(rt: &HostRuntime, row: Cut) -> Result<(), Fail> {
+    let file = cut_file(rt, row)?;
+    let mut files = FaultyFiles::new(rt);
+    check_answer(&mut files, file.path.as_str(), 21, row.lines)
+}
+
+// The file of a row.
+fn cut_file(rt: &HostRuntime, row: Cut) -> Result<TemporaryFile<'_, HostRuntime>, Fail> {
+    let image = sample_image(rt.alloc(), 9, row.before)?;
+    temporary_file(rt, "explain-cut", part_of(image.bytes(), 0, row.len)?)
+}
+
+// The file ends where the L1 table begins.
+const ONE_CLUSTER: Cut = Cut {
+    before: counted! {},
+    len: 0x200,
+    lines: "in IMAGE: byte 36: l1_size is 1\nin IMAGE: byte 40: l1_table_offset is 0x200\n\
+        in IMAGE: the file ends at 0x200\n",
+};
+
+// A file is opened twice, and its kind is looked at by one call each time. Then the header is read by four,
+// and the page with the tables by five, since a read sets the place before it asks for bytes. At the page's
+// end the file gives none, and its length is asked for. A place past the end need not be one that it can be
+// set to.
+const REFUSED: &[u64] = &[1, 2, 3, 4, 5, 6, 8, 9];
+
+#[test]
+fn a_refused_call_of_a_file_ends_the_search_for_a_table_past_its_end(
+    rt: HostRuntime,
+) -> Result<(), Fail> {
+    let file = cut_file(&rt, ONE_CLUSTER)?;
+    let mut files = FaultyFiles::new(&rt);
+    for passes in REFUSED {
+        files.plan = Some(*passes);
+        check_line(
+            &mut files,
+            file.path.as_str(),
+            "explain 21 IMAGE",
+            NO_FAILURES,
+            Failed("", STORAGE),
+        )?;
+    }
+    files.plan = Some(10);
+    check_answer(&mut files, file.path.as_str(), 21, ONE_CLUSTER.lines)
 }
