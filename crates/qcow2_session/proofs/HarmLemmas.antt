@@ -11,22 +11,18 @@ use Rattle.qcow2_metadata.specs.Table.L2Guards.{one_if}
 use Rattle.qcow2_check.specs.Findings.{checked_tables, image_findings}
 use Rattle.qcow2_check.specs.Flags.{image_flags}
 use Rattle.qcow2_check.specs.Uses.{ImageTables}
-use Rattle.qcow2_check.specs.declared.findings.Finding.{Finding}
-use Rattle.qcow2_check.specs.declared.flags.WrongFlag.{WrongFlag}
 use Rattle.qcow2_apply_laws.proofs.CheckedLemmas.{finds-none}
 use Rattle.qcow2_apply_laws.proofs.HeaderLeftLemmas.{header-left-by-check}
 use Rattle.qcow2_apply.specs.Apply.{EditsDisk, FollowsPlan, LosesNoName, l2_tables_of}
-use Rattle.qcow2_apply_laws.specs.Errors.{HasNoErrors, IsLate}
+use Rattle.qcow2_apply_laws.specs.Errors.{HasNoErrors}
 use Rattle.qcow2_guest_edits.specs.Passes.{ArePlacesApart}
 use Rattle.qcow2_apply.specs.Plan.{IsPlanFor, IsPlanOf}
 use Rattle.qcow2_changes.specs.declared.changed_clusters.ChangedClusters.{ChangedClusters}
 use Rattle.qcow2_guest_edits.specs.declared.guest_edits.GuestEdit.{GuestEdit}
 use Rattle.qcow2_apply.specs.declared.plan.Plan.{Plan}
-use Rattle.qcow2_session.proofs.AccountLemmas.{kind-joined}
-use Rattle.qcow2_session.proofs.RunsLemmas.{further}
+use Rattle.qcow2_session.proofs.TotalsLemmas.{totals-of-findings}
 use Rattle.qcow2_session.specs.Commands.Check.{FindsNoHarm, report_on}
-use Rattle.qcow2_session.specs.Commands.Check.Runs.{runs_of}
-use Rattle.qcow2_session.specs.Commands.Check.Totals.{clusters_of, harms_nobody, has_exclusive_uses, is_missing, totals_on, verdict_of}
+use Rattle.qcow2_session.specs.Commands.Check.Totals.{harms_nobody, has_exclusive_uses, is_missing, totals_on, verdict_of}
 use Rattle.qcow2_session.specs.declared.commands.check.totals.Totals.{Totals}
 use Rattle.qcow2_session.specs.declared.commands.verdict.Verdict.TheVariants.{Harmful}
 
@@ -35,39 +31,20 @@ fails : (test : Bool) (rest : ℕ) → cond test 1 0 + rest ≡ 0 → test ≡ f
 fails true rest none = absurd (omega (arith, none))
 fails false rest none = refl
 
--- where no cluster of runs is of a kind, no finding of theirs is
-none-of-findings : (is_kind : Finding → Bool) → ((finding : Finding) → is_kind (further finding 1) ≡ is_kind finding) → (findings : List Finding)
-    → sum_by (clusters_of is_kind) (runs_of findings) ≡ 0 → All (λ finding. is_kind finding ≡ false) findings
-none-of-findings is_kind same [] none = All-nil (λ finding. is_kind finding ≡ false)
-none-of-findings is_kind same (finding ∷ findings) none =
-    let both : cond (is_kind finding) 1 0 + sum_by (clusters_of is_kind) (runs_of findings) ≡ 0 =
-    sym (kind-joined is_kind same finding (runs_of findings)) ∙ none in
-    All-cons (λ finding. is_kind finding ≡ false) finding findings (fails (is_kind finding) _ both) (none-of-findings is_kind same findings (omega (arith, both)))
+-- where no item is counted that passes a test, none passes it
+none-counted : {X : Type 0} (test : X → Bool) (items : List X) → sum_by (λ item. one_if (test item)) items ≡ 0 → All (λ item. test item ≡ false) items
+none-counted test [] none = All-nil (λ item. test item ≡ false)
+none-counted test (item ∷ items) none =
+    let both : cond (test item) 1 0 + sum_by (λ x. one_if (test x)) items ≡ 0 = sym (sum_by-cons (λ x. one_if (test x)) item items) ∙ none in
+    All-cons (λ x. test x ≡ false) item items (fails (test item) _ both) (none-counted test items (omega (arith, both)))
 
 -- and the other way around
-none-of-runs : (is_kind : Finding → Bool) → ((finding : Finding) → is_kind (further finding 1) ≡ is_kind finding) → (findings : List Finding)
-    → All (λ finding. is_kind finding ≡ false) findings → sum_by (clusters_of is_kind) (runs_of findings) ≡ 0
-none-of-runs is_kind same [] none = refl
-none-of-runs is_kind same (finding ∷ findings) none =
-    let first : is_kind finding ≡ false = All-head (λ finding. is_kind finding ≡ false) finding findings none in
-    let rest = none-of-runs is_kind same findings (All-tail (λ finding. is_kind finding ≡ false) finding findings none) in
-    kind-joined is_kind same finding (runs_of findings) ∙ grind (arith, first, rest)
-
--- where no flag is counted as false, none is
-none-set : (flags : List WrongFlag) → sum_by (λ (flag : WrongFlag). one_if flag.is_set) flags ≡ 0 → All IsLate flags
-none-set [] none = All-nil IsLate
-none-set (flag ∷ flags) none =
-    let both : cond flag.is_set 1 0 + sum_by (λ (flag : WrongFlag). one_if flag.is_set) flags ≡ 0 =
-    sym (sum_by-cons (λ (flag : WrongFlag). one_if flag.is_set) flag flags) ∙ none in
-    All-cons IsLate flag flags (fails flag.is_set _ both) (none-set flags (omega (arith, both)))
-
--- and the other way around
-none-false : (flags : List WrongFlag) → All IsLate flags → sum_by (λ (flag : WrongFlag). one_if flag.is_set) flags ≡ 0
-none-false [] none = refl
-none-false (flag ∷ flags) none =
-    let first : flag.is_set ≡ false = All-head IsLate flag flags none in
-    let rest = none-false flags (All-tail IsLate flag flags none) in
-    sum_by-cons (λ (flag : WrongFlag). one_if flag.is_set) flag flags ∙ grind (arith, first, rest)
+counts-none : {X : Type 0} (test : X → Bool) (items : List X) → All (λ item. test item ≡ false) items → sum_by (λ item. one_if (test item)) items ≡ 0
+counts-none test [] none = refl
+counts-none test (item ∷ items) none =
+    let first : test item ≡ false = All-head (λ x. test x ≡ false) item items none in
+    let rest = counts-none test items (All-tail (λ x. test x ≡ false) item items none) in
+    sum_by-cons (λ x. one_if (test x)) item items ∙ grind (arith, first, rest)
 
 -- where the verdict isn't `Harmful`, nothing is counted that does harm
 harmless-zero : (totals : Totals) → verdict_of totals ≢ Harmful → (totals.missing ≡ 0) × (totals.shared ≡ 0) × (totals.false_flags ≡ 0)
@@ -85,21 +62,24 @@ zero-harmless totals missing shared false_flags = λ harmful. grind (arith, nat_
 pub no-errors-of-verdict : (tables : ImageTables) (image : Image) → (report_on tables image).verdict ≢ Harmful → HasNoErrors tables image
 no-errors-of-verdict tables image safe =
     let zeros = harmless-zero (totals_on tables image) safe in
+    let counted = totals-of-findings tables image in
     let findings = image_findings tables image in
-    let enough = none-of-findings is_missing (λ f. refl) findings zeros.0 in
-    let apart = none-of-findings has_exclusive_uses (λ f. refl) findings zeros.1 in
+    let enough = none-counted is_missing findings (sym counted.1 ∙ zeros.0) in
+    let apart = none-counted has_exclusive_uses findings (sym counted.2 ∙ zeros.1) in
     record {
       findings = λ k d below. (grind (arith, nat_tests, enough k d below), apart k d below);
-      flags = none-set (image_flags tables image) (omega (arith, zeros.2));
+      flags = none-counted (λ flag. flag.is_set) (image_flags tables image) (omega (arith, zeros.2));
     }
 
 -- and only there
 pub verdict-of-no-errors : (tables : ImageTables) (image : Image) → HasNoErrors tables image → (report_on tables image).verdict ≢ Harmful
 verdict-of-no-errors tables image none =
+    let counted = totals-of-findings tables image in
     let findings = image_findings tables image in
-    let missing = none-of-runs is_missing (λ f. refl) findings (λ k d below. grind (arith, nat_tests, none.findings k d below)) in
-    let shared = none-of-runs has_exclusive_uses (λ f. refl) findings (λ k d below. (none.findings k d below).1) in
-    zero-harmless (totals_on tables image) missing shared (omega (arith, none-false (image_flags tables image) none.flags))
+    let missing = counts-none is_missing findings (λ k d below. grind (arith, nat_tests, none.findings k d below)) in
+    let shared = counts-none has_exclusive_uses findings (λ k d below. (none.findings k d below).1) in
+    let flags = counts-none (λ flag. flag.is_set) (image_flags tables image) none.flags in
+    zero-harmless (totals_on tables image) (counted.1 ∙ missing) (counted.2 ∙ shared) (omega (arith, flags))
 
 -- edits of a disk that were made by a plan leave no harm where there was none
 no-harm-by-plan : (header : HeaderRecord) (edits : List GuestEdit) (plan : Plan) (old new : Image) (tables : ImageTables) → IsValidHeader header

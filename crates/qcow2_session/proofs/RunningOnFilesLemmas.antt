@@ -37,7 +37,7 @@ unmoved value old new reads = grind (arith, reads.device, reads.bytes, reads-cal
 
 -- the fault of reads is that of what they were made for
 pub same-reads : {A B : Type 0} (fault : Fault) (old new : StorageState) → OnlyReads {T = A} (Err fault) old new → OnlyReads {T = B} (Err fault) old new
-same-reads fault old new reads = record { told = reads.told; bytes = reads.bytes; device = reads.device }
+same-reads fault old new reads = record { told = grind (arith, reads.told); bytes = reads.bytes; device = reads.device }
 
 -- no call was made
 pub unread : {T : Type 0} (fault : Fault) (state : StorageState) → fault ≢ Storage → OnlyReads {T = T} (Err fault) state state

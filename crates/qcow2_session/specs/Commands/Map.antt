@@ -1,5 +1,5 @@
 -- What does the command `map` print?
-use Rattle.std.specs.Prelude.{◌⊎◌, ℕ, false, true, ◌==◌, if◌then◌else◌, List, [], ◌∷◌, ◌++◌, flat_map, Option, Some, None, Result, IfErr, IsErrOf, IsOkAnd, OnOk, bytes_eq, codes}
+use Rattle.std.specs.Prelude.{◌⊎◌, ℕ, true, ◌==◌, if◌then◌else◌, List, [], ◌∷◌, ◌++◌, flat_map, Option, Some, None, Result, IfErr, IsErrOf, IsOkAnd, OnOk, bytes_eq, codes}
 use Rattle.std.specs.Fmt.{decimal}
 use Rattle.qcow2_base.specs.Storage.{Image, OnImage, ReadsFor}
 use Rattle.qcow2_base.specs.declared.fault.Fault.{Fault}

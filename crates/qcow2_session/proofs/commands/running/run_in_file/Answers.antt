@@ -1,4 +1,4 @@
-use Rattle.std.proofs.Common.{◌∙◌, ap, inl, inr, refl}
+use Rattle.std.proofs.Common.{◌∙◌, ap, inl, inr, refl, arith}
 use Rattle.qcow2_base.specs.Storage.File.{file_state}
 use Rattle.qcow2_session.proofs.RunningOnFilesLemmas.{ran-between, same-reads, stopped-before, unmoved, unread}
 use Rattle.qcow2_session.proofs.commands.running.run_in_file.Goals as goal
@@ -24,4 +24,4 @@ pub returns-in-Err-new-clause-runs : goal.returns-in-Err-new-clause-runs
 returns-in-Err-new-clause-runs g c = λ file length.
     rw (ap (file_state g.F.ImageFile.content) c.in-Err-new.ensures, unmoved _ _ _ c.in_default.ensures.reads)
     (stopped-before c.args.command.now file c.in-Ok.header _ g.O.Write.contents _ _ _ _ c.in-Ok.ensures
-    (inl (refl, rw c.reads_all_tables.ensures at c.if-not-reads_all_tables.false)) (unread _ _ (λ is. grind is)))
+    (inl (refl, rw c.reads_all_tables.ensures at c.if-not-reads_all_tables.false)) (unread _ _ (λ is. grind (arith, is))))
