@@ -36,6 +36,8 @@ use std::alloc::Global;
 /// room, or 25 for a name that no loaded header has. No byte has changed then. Where memory runs out, a part
 /// of the steps may be done, and each counter and each entry is the old one or that of its step. Where the
 /// storage fails, any bytes may be in the header's text besides, or in one table or block.
+///
+/// A storage doesn't know where its image ends. Who does calls `refuse_tables_past_end` first.
 pub fn repair_image<S: Storage>(
     alloc: Global,
     image: &mut S,
