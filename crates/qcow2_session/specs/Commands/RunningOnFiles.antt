@@ -42,7 +42,8 @@ abbrev pub FitsFile : FileContent → Command → HeaderRecord → StorageState 
 FitsFile file command header state = OnFile file (OnImage state (λ image.
     command_in_file command header file.len image ≡ Ok tt))
 
--- the faults of a command that doesn't, whatever the file: of some length the edits are refused, or of some tables a check is
+-- the faults by which a command is refused so, whatever the file: edits by what refuses them in a file of some length, a
+-- repair by what refuses a check, or by one from outside
 abbrev pub IsFileRefusal : Command → HeaderRecord → Fault → Type 0
 IsFileRefusal (Apply form edits) header fault = (len : ℕ) × (edits_in_file header len edits ≡ Err fault)
 IsFileRefusal (Check Repair) header fault = IsCheckFault header fault ⊎ IsFromOutside fault

@@ -95,6 +95,7 @@ fn print_text<O: Write>(text: &str, out: &mut O) -> Result<(), Fault>
 }
 
 // Prints an extent, put together in a line whose bytes no longer matter.
+#[inline(always)]
 fn print_extent<O: Write>(
     extent: &Extent,
     format: ExtentFormat,

@@ -51,7 +51,7 @@ impl<'a, W: Write> Output<'a, W> {
 }
 
 /// Prints these bytes.
-#[inline]
+#[inline(always)]
 #[tactic(auto, using(crate::proofs::OutputLemmas::part_taken))]
 pub(crate) fn print<W: Write>(bytes: &[u8], writer: &mut W) -> Result<(), Fault>
     ensures { PrintsText result (W.contents writer.old) (W.contents writer.new) bytes.now }
@@ -63,8 +63,8 @@ pub(crate) fn print<W: Write>(bytes: &[u8], writer: &mut W) -> Result<(), Fault>
 }
 
 /// Writes bytes until all are written or a write fails, and returns how many were. Mostly one write takes
-/// all. Where there are none, none is made.
-#[inline]
+/// all, and what comes then is a call of its own. Where there are no bytes, no write is made.
+#[inline(always)]
 #[tactic(auto, using(crate::proofs::ReportLemmas::appends_more))]
 pub(crate) fn write_out<W: Write>(bytes: &[u8], writer: &mut W) -> usize
     ensures bound { result ≤ length bytes.now }
@@ -103,7 +103,7 @@ fn write_rest<W: Write>(bytes: &[u8], writer: &mut W) -> usize
 
 // Writes a part of these bytes. Returns how many, and whether the write failed: one that was interrupted is
 // to be made again.
-#[inline]
+#[inline(always)]
 fn write_part<W: Write>(bytes: &[u8], writer: &mut W) -> (usize, bool)
     ensures bound { result.0 ≤ length bytes.now }
     ensures bytes { Appends (W.contents writer.old) (W.contents writer.new) (take result.0 bytes.now) }
