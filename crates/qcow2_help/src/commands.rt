@@ -31,7 +31,7 @@ Faults 34 and 35, of a failed call and of memory, may come at any time.
 
 const VERSION: &str = "\
 qmeta 0.1.0
-proved with rattle-kit-13b logic dac8208d650f15bf
+proved with rattle-kit-13f logic dac8208d650f15bf
 ";
 
 const INFO: &str = "\
