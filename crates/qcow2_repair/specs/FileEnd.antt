@@ -1,5 +1,5 @@
 -- Does the file of an image have the tables and refcount blocks that the image names?
-use Rattle.std.specs.Prelude.{ℕ, ◌+◌, ◌*◌, ◌^◌, nat_le, Bool, true, ◌&&◌, if◌then◌else◌, List, Option, Some, None, option_map, Result, Ok, Err}
+use Rattle.std.specs.Prelude.{ℕ, ◌+◌, ◌*◌, ◌^◌, nat_le, Bool, true, ◌==◌, ◌&&◌, ◌||◌, if◌then◌else◌, List, Option, Some, None, option_map, Result, Ok, Err}
 use Rattle.std.specs.Int.{div_ceil}
 use Rattle.std.specs.List.{list_all}
 use Rattle.qcow2_base.specs.Storage.{Image}
@@ -13,7 +13,7 @@ use Rattle.qcow2_check.specs.Uses.{ImageTables, image_tables}
 
 -- whether a file of that many clusters, the last of which may be cut, has that many clusters from one on
 abbrev pub has_clusters : ℕ → HostCluster → ℕ → Bool
-has_clusters file first count = nat_le (first.0 + count) file
+has_clusters file first count = count == 0 || nat_le (first.0 + count) file
 
 -- whether it has the cluster that an entry names, if that names one
 abbrev pub has_named : ℕ → Option HostCluster → Bool

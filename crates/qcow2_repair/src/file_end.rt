@@ -110,5 +110,5 @@ fn has_named(file: ClusterCount, named: Option<HostCluster>) -> bool
 fn has_clusters(file: ClusterCount, first: HostCluster, count: ClusterCount) -> bool
     ensures { result ≡ has_clusters file.0 first count.0 }
 {
-    first.0 <= file.0 && count.0 <= file.0 - first.0
+    count.0 == 0 || (first.0 <= file.0 && count.0 <= file.0 - first.0)
 }

@@ -79,6 +79,12 @@ const REPAIRED: &[Repaired] = rows! {
         after: counted! {
             LARGER, TWO_TABLES, (NEXT_TABLE, COPIED + 0xc00), (0xc00, 0), (COUNTERS_4, 0x0001_0001_0001_0000)
         }, ..CONSISTENT },
+    // and a table without entries, which may lie anywhere
+    Repaired { name: "an empty L1 table past the file's end", before: counted! { (32, 0), (40, 0x1_0000) },
+        after: counted! {
+            (32, 0), (40, 0x1_0000), (COUNTERS, 0x0001_0000_0000_0001), (COUNTERS_4, 0x0001_0000_0000_0000),
+            BLOCK_END
+        }, ..CONSISTENT },
     // what no block counts stays
     Repaired { name: "no block", before: counted! { TABLE, (REFTABLE, 0) },
         after: counted! { TABLE, (REFTABLE, 0) }, verdict: Verdict::Harmful,
