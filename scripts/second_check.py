@@ -117,7 +117,8 @@ class Tables:
         """Whether a table or block has a cluster past the file's end. The file's last one may be cut."""
         spans = [(self.l1_start, 8 * self.l1_entries), (self.reftable_start, self.reftable_clusters * self.cluster)]
         spans += [(start, self.cluster) for start in [*self.blocks.values(), *self.l2_starts()]]
-        return max(-(-sum(span) // self.cluster) for span in spans) > -(-self.length // self.cluster)
+        end = -(-self.length // self.cluster)
+        return any(length and -(-(start + length) // self.cluster) > end for start, length in spans)
 
     def stored_counters(self):
         """Each cluster whose counter isn't 0, and that counter. They are found by bytes that aren't 0."""
