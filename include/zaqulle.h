@@ -79,7 +79,8 @@ extern "C" {
     F(ZQ_UNCOUNTED, 37, "all that refers to clusters must be read")                                               \
     F(ZQ_OVERLAP, 38, "the uses of a cluster must not exclude each other, nobody knows which of them to believe") \
     F(ZQ_IN_USE, 39, "an image that is written must be used by nobody else, it is in use")                        \
-    F(ZQ_SHARED, 40, "an L2 table that is edited must have no other reference")
+    F(ZQ_SHARED, 40, "an L2 table that is edited must have no other reference")                                   \
+    F(ZQ_L1_SHORT, 41, "the L1 table must have an entry for each part of the disk, it has too few")
 
 enum zq_fault {
     ZQ_OK = 0,

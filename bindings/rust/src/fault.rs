@@ -106,6 +106,7 @@ faults! {
     Overlap, 38, "the uses of a cluster must not exclude each other, nobody knows which of them to believe";
     InUse, 39, "an image that is written must be used by nobody else, it is in use";
     Shared, 40, "an L2 table that is edited must have no other reference";
+    L1Short, 41, "the L1 table must have an entry for each part of the disk, it has too few";
 }
 
 impl Error for Fault {}

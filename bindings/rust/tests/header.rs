@@ -130,15 +130,15 @@ fn a_field_that_breaks_a_rule_is_refused_by_its_fault() {
 }
 
 #[test]
-fn faults_have_the_numbers_from_1_to_40() {
+fn faults_have_the_numbers_from_1_to_41() {
     let numbers: Vec<_> = Fault::NAMED.iter().map(|fault| fault.number()).collect();
-    assert_eq!(numbers, (1..=40).collect::<Vec<_>>());
+    assert_eq!(numbers, (1..=41).collect::<Vec<_>>());
     for fault in Fault::NAMED {
         assert_eq!(Fault::from_number(fault.number()), Some(*fault));
     }
     assert_eq!(Fault::from_number(0), None);
-    assert_eq!(Fault::from_number(41), Some(Fault::Unknown(41)));
-    assert_eq!(Fault::Unknown(41).number(), 41);
+    assert_eq!(Fault::from_number(42), Some(Fault::Unknown(42)));
+    assert_eq!(Fault::Unknown(42).number(), 42);
 }
 
 #[test]

@@ -106,13 +106,16 @@ impl Plan {
 /// Makes edits of a disk in an image with this header, and lets the counters of the image's clusters follow.
 /// Returns what becomes of clusters by them.
 ///
-/// All is looked at first, and refused where something can't be: by 36 with an external data file; by 32
-/// and the position of the first edit that doesn't fit the disk; by 27 for zeros in version 2; by the
-/// faults of the L1 table and of the refcount table. Then by table, in their order: by 23 where there is
-/// none, but for discards; by 40 and the position of the first of its edits where its counter isn't 1 or
-/// its L1 entry isn't copied; by those of its load; for a mapped cluster by 23 where it has no counter, and
-/// by 32 where that isn't 0 or another edit maps it. After all tables by 23 where edits but discards go
-/// past the last L1 entry, and last by 30 where a counter can't follow.
+/// All is looked at first, and refused where something can't be: by 41 where the L1 table is too short for
+/// the disk; by 36 with an external data file; by 32 and the position of the first edit that doesn't fit the
+/// disk; by 27 for zeros in version 2; by the faults of the L1 table and of the refcount table. Then by
+/// table, in their order: by 23 where there is none, but for discards; by 40 and the position of the first of
+/// its edits where its counter isn't 1 or its L1 entry isn't copied; by those of its load; for a mapped
+/// cluster by 23 where it has no counter, and by 32 where that isn't 0 or another edit maps it. Last by 30
+/// where a counter can't follow.
+///
+/// A storage doesn't know where its image ends. Who does calls `refuse_tables_past_end` of `qcow2_repair`
+/// first.
 ///
 /// Then autoclear features are cleared, in the header too. What clusters gain is counted before tables are
 /// edited, and what they lose after that, each on the device before the next begins. So where no cluster is

@@ -76,6 +76,18 @@ const TWICE: (u64, u64) = (BLOCK + 16, 0x0000_0002_0000_0000);
 
 const BY_HEADER: &[Refused<'static>] = rows! { Refused:
     { name: "no edits", before: &[], edits: &[], fault: None },
+    { name: "a disk past the L1 table", before: &[LONG_DISK], edits: &[discard!(3, 1)],
+        fault: Some(Fault::L1Short) },
+    { name: "one past it by a byte", before: &[(24, 65537)], edits: &[discard!(3, 1)],
+        fault: Some(Fault::L1Short) },
+    { name: "one up to its end", before: &[(24, 65536)], edits: &[discard!(3, 1)], fault: None },
+    { name: "one past it, and no edits", before: &[LONG_DISK], edits: &[], fault: Some(Fault::L1Short) },
+    { name: "one past it, before an external data file", before: &[LONG_DISK, EXTERNAL],
+        edits: &[discard!(3, 1)], fault: Some(Fault::L1Short) },
+    { name: "one past it, before an edit that doesn't fit", before: &[LONG_DISK], edits: &[map!(0 to 0)],
+        fault: Some(Fault::L1Short) },
+    { name: "one past it, before a bad L1 entry", before: &[LONG_DISK, BAD_L1_ENTRY], edits: &[],
+        fault: Some(Fault::L1Short) },
     { name: "an external data file", before: &[EXTERNAL], edits: &[discard!(3, 1)],
         fault: Some(Fault::ExternalData) },
     { name: "one, and no edits", before: &[EXTERNAL], edits: &[], fault: Some(Fault::ExternalData) },
@@ -167,13 +179,7 @@ const BY_CLUSTER: &[Refused<'static>] = rows! { Refused:
         fault: Some(Fault::BadEdit(0)) },
     { name: "the other one first", before: &[], edits: &[map!(1 to 512), map!(0 to 5)],
         fault: Some(Fault::NotPlaced) },
-    { name: "a map past the last L1 entry", before: &[LONG_DISK], edits: &[map!(128 to 9)],
-        fault: Some(Fault::NotPlaced) },
-    { name: "zeros past it", before: &[LONG_DISK], edits: &[kept!(127, 2)], fault: Some(Fault::NotPlaced) },
-    { name: "a discard past it", before: &[LONG_DISK], edits: &[discard!(127, 2)], fault: None },
-    { name: "zeros up to it", before: &[LONG_DISK], edits: &[zeros!(64, 64)], fault: None },
-    { name: "a used cluster before what is past it", before: &[LONG_DISK],
-        edits: &[map!(128 to 9), map!(64 to 5)], fault: Some(Fault::BadEdit(1)) },
+    { name: "zeros up to the last L1 entry", before: &[], edits: &[zeros!(64, 64)], fault: None },
 };
 
 const BY_COUNTER: &[Refused<'static>] = rows! { Refused:
@@ -199,8 +205,6 @@ const BY_COUNTER: &[Refused<'static>] = rows! { Refused:
         edits: &[discard!(0, 128)], fault: Some(Fault::Shared(0)) },
     { name: "a used cluster of the second table before it", before: &[FREE],
         edits: &[discard!(0, 1), map!(64 to 5)], fault: Some(Fault::BadEdit(1)) },
-    { name: "zeros past the last L1 entry before it", before: &[LONG_DISK, UNCOUNTED],
-        edits: &[zeros!(0, 129)], fault: Some(Fault::NotPlaced) },
 };
 
 // The image with these changes, and an autoclear feature.

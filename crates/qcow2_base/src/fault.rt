@@ -166,6 +166,8 @@ pub enum Fault {
     InUse,
     #[error("an L2 table that is edited must have no other reference, that of edit {0} may have one")]
     Shared(usize),
+    #[error("the L1 table must have an entry for each part of the disk, it has too few")]
+    L1Short,
 }
 
 /// What sort of fault it is, for a caller that treats faults by their sort.
@@ -188,7 +190,7 @@ pub enum FaultKind {
 impl Fault {
     ghost use Rattle.qcow2_base.specs.Fault.{fault_number, fault_kind};
 
-    /// The fault's fixed number, from 1 to 40, which `qmeta` prints.
+    /// The fault's fixed number, from 1 to 41, which `qmeta` prints.
     pub fn number(&self) -> u32
         ensures { result ≡ fault_number self.now }
     {
@@ -243,6 +245,7 @@ impl Fault {
             Fault::Overlap => 38,
             Fault::InUse => 39,
             Fault::Shared(_) => 40,
+            Fault::L1Short => 41,
             _ => 0,
         }
     }

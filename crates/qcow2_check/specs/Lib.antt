@@ -2,6 +2,7 @@ pub mod Counters
 pub mod Failures
 pub mod Findings
 pub mod Flags
+pub mod L1Length
 pub mod NamedTables
 pub mod Tally
 pub mod Uses

@@ -4,6 +4,7 @@
 mod counters;
 mod findings;
 mod flags;
+mod l1_length;
 mod named_tables;
 pub mod parts;
 mod tally;
@@ -13,4 +14,5 @@ mod windows;
 pub use counters::Counters;
 pub use findings::{Finding, Findings};
 pub use flags::{FlagPlace, Flags, WrongFlag};
+pub use l1_length::{is_l1_short, needed_l1_entries, refuse_short_l1};
 pub use named_tables::{load_l1_table, load_l2_table, load_reftable, named_block, named_cluster};

@@ -95,6 +95,13 @@ const CLUSTER_BITS: Field = Field {
     form: Form::Count,
 };
 
+const SIZE: Field = Field {
+    name: "size",
+    offset: 24,
+    bytes: 8,
+    form: Form::Count,
+};
+
 const L1_SIZE: Field = Field {
     name: "l1_size",
     offset: 36,
@@ -184,6 +191,7 @@ fn fields_about(topic: Topic) -> &'static [Field] {
         Topic::Fault(27) => &[VERSION],
         Topic::Fault(36) => &[INCOMPATIBLE],
         Topic::Fault(37) => &[SNAPSHOTS],
+        Topic::Fault(41) => &[L1_SIZE, SIZE, CLUSTER_BITS],
         Topic::Fault(_) => &[],
         Topic::Encryption => &[CRYPT_METHOD],
         Topic::L1Table => &[L1_SIZE, L1_OFFSET],

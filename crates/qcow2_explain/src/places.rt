@@ -39,6 +39,8 @@ pub(super) enum Place {
     },
     /// The end of the image's file.
     FileEnd(u64),
+    /// How many L1 entries the whole disk needs.
+    NeededEntries(u64),
 }
 
 impl fmt::Display for Place {
@@ -81,6 +83,7 @@ impl fmt::Display for Place {
                 "cluster {cluster}: its counter is {counter}, and it has {uses} uses"
             ),
             Place::FileEnd(length) => write!(f, "the file ends at {length:#x}"),
+            Place::NeededEntries(count) => write!(f, "the disk needs {count} L1 entries"),
         }
     }
 }

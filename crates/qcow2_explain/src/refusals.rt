@@ -11,6 +11,7 @@ use super::past_end::past_end_refusal;
 use super::places::Place;
 use super::tables::table_refusal;
 use qcow2_base::{Fault, MemStorage, Storage, UncountedPart};
+use qcow2_check::{is_l1_short, needed_l1_entries};
 use qcow2_metadata::Header;
 use std::alloc::{AllocError, Global};
 
@@ -115,6 +116,7 @@ fn plain_refusal<S: Storage>(
             Some(part) => by_part(alloc, image, part),
             None => Ok(None),
         },
+        41 if is_l1_short(header) => short_l1_refusal(alloc, image, header),
         _ => Ok(None),
     }
 }
@@ -154,6 +156,20 @@ fn room_refusal<S: Storage>(
         Err(Fault::HeaderTooLong) => by_fields(alloc, image, Fault::HeaderTooLong),
         Err(fault) => Err(fault),
     }
+}
+
+// The refusal of an L1 table that is too short for the disk.
+fn short_l1_refusal<S: Storage>(
+    alloc: Global,
+    image: &mut S,
+    header: &Header,
+) -> Result<Option<Refusal>, Fault>
+    ensures storage { ReadsFor (IsErrOf result StorageFailed) (S.state image.old) (S.state image.new) }
+{
+    let mut places = fields_of(alloc, image, Topic::Fault(41))?;
+    places.push(Place::NeededEntries(needed_l1_entries(header)))?;
+    let fault = Fault::L1Short;
+    Ok(Some(Refusal { fault, places }))
 }
 
 // Why a header is refused by a fault, unless memory ran out or the storage failed.

@@ -4,8 +4,9 @@ use Rattle.std.specs.Int.{div_ceil}
 use Rattle.std.specs.List.{list_any, position, range_with_len}
 use Rattle.std.specs.Option.{option_or}
 use Rattle.qcow2_base.specs.declared.fault.Fault.{Fault}
-use Rattle.qcow2_base.specs.declared.fault.Fault.TheVariants.{BadEdit, ExternalData, VersionNeeded}
+use Rattle.qcow2_base.specs.declared.fault.Fault.TheVariants.{BadEdit, ExternalData, L1Short, VersionNeeded}
 use Rattle.qcow2_base.specs.declared.types.GuestOffset.{GuestOffset}
+use Rattle.qcow2_check.specs.L1Length.{is_l1_short}
 use Rattle.qcow2_edits.specs.declared.edits.Edit.{Edit}
 use Rattle.qcow2_edits.specs.declared.edits.Edit.TheVariants as entry
 use Rattle.qcow2_metadata.specs.Header.{HeaderRecord, geometry_of, uses_external_data}
@@ -97,6 +98,7 @@ ends_after cb tables edit = nat_lt (tables * l2_entries cb) (cluster_end cb edit
 -- why edits can't be made of any disk of this header
 abbrev pub edits_refusal : HeaderRecord → List GuestEdit → Option Fault
 edits_refusal header edits =
-    if uses_external_data header then Some ExternalData
+    if is_l1_short header then Some L1Short
+    else if uses_external_data header then Some ExternalData
     else option_or (option_map BadEdit (first_unfit_of header edits))
     (if header.v2.version == 2 && list_any is_zeros edits then Some VersionNeeded else None)

@@ -10,6 +10,7 @@ ghost use Rattle.qcow2_guest_edits.specs.GuestEdits.{cluster_end, edit_at, edits
 ghost use Rattle.qcow2_guest_edits.specs.Tables.{IsLeftBy, IsL2TableOf};
 
 use qcow2_base::{Fault, GuestCluster, GuestOffset, HostCluster, MAX_OFFSET};
+use qcow2_check::refuse_short_l1;
 use qcow2_edits::Edit;
 use qcow2_metadata::{Header, L2Table};
 use std::alloc::{AllocError, Global};
@@ -253,6 +254,7 @@ pub fn first_in(edits: &[GuestEdit], header: &Header, index: u32) -> Option<usiz
 pub fn check_edits(header: &Header, edits: &[GuestEdit]) -> Result<(), Fault>
     ensures { result ≡ unless_refused (edits_refusal header.now edits.now) (Ok tt) }
 {
+    refuse_short_l1(header)?;
     if header.external_data_file() {
         return Err(Fault::ExternalData);
     }

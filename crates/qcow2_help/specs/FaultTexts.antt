@@ -1,6 +1,6 @@
 -- What does `explain` print of each fault?
 use Rattle.std.specs.Prelude.{ℕ, List, Option, Some, None, if◌then◌else◌, ◌==◌, nat_le}
-use Rattle.qcow2_help.specs.declared.faults.TheConstants.{BACKING_NAME_LONG, BACKING_NAME_PLACE, BACKING_NAME_TEXT, BAD_EDIT, BAD_STEP, CANNOT_GROW, CLUSTER_SIZE, COUNTER_RANGE, DATA_FILE_CONFLICT, ENTRY_RESERVED, ENTRY_UNALIGNED, EXTENSIONS_EXCEED, EXTENSION_TEXT, EXTERNAL_DATA, FEATURE_NAME_CUT, FIELD_CHANGED, FORMAT_CONFLICT, HEADER_BIG, HEADER_SHORT, HEADER_TOO_LONG, INCOMPATIBLE, IN_USE, L1_UNALIGNED, NAME_TOO_LONG, NOT_PLACED, NOT_QCOW2, NO_MEMORY, NO_OFFSET, OVERLAP, REFCOUNT_WIDTH, REFTABLE_UNALIGNED, SHARED, STORAGE, TABLE_PLACE, TABLE_TOO_BIG, TOO_MANY, UNCOUNTED, VERSION, VERSION_NEEDED, WRONG_LENGTH}
+use Rattle.qcow2_help.specs.declared.faults.TheConstants.{BACKING_NAME_LONG, BACKING_NAME_PLACE, BACKING_NAME_TEXT, BAD_EDIT, BAD_STEP, CANNOT_GROW, CLUSTER_SIZE, COUNTER_RANGE, DATA_FILE_CONFLICT, ENTRY_RESERVED, ENTRY_UNALIGNED, EXTENSIONS_EXCEED, EXTENSION_TEXT, EXTERNAL_DATA, FEATURE_NAME_CUT, FIELD_CHANGED, FORMAT_CONFLICT, HEADER_BIG, HEADER_SHORT, HEADER_TOO_LONG, INCOMPATIBLE, IN_USE, L1_SHORT, L1_UNALIGNED, NAME_TOO_LONG, NOT_PLACED, NOT_QCOW2, NO_MEMORY, NO_OFFSET, OVERLAP, REFCOUNT_WIDTH, REFTABLE_UNALIGNED, SHARED, STORAGE, TABLE_PLACE, TABLE_TOO_BIG, TOO_MANY, UNCOUNTED, VERSION, VERSION_NEEDED, WRONG_LENGTH}
 
 -- the text on the fault of a number, if it is one of headers
 unfoldable pub header_fault_text : ℕ → Option (List ℕ)
@@ -50,6 +50,7 @@ later_fault_text number =
     else if number == 38 then Some OVERLAP.now
     else if number == 39 then Some IN_USE.now
     else if number == 40 then Some SHARED.now
+    else if number == 41 then Some L1_SHORT.now
     else None
 
 -- the text on the fault of a number, if there is such a fault
@@ -58,4 +59,4 @@ fault_text number = if nat_le number 17 then header_fault_text number else later
 
 -- how many faults there are: their numbers are those from 1 to this one
 abbrev pub fault_count : ℕ
-fault_count = 40
+fault_count = 41

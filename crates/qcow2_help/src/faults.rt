@@ -4,7 +4,7 @@ ghost use Rattle.std.specs.Prelude.{◌≡◌, option_map};
 ghost use Rattle.qcow2_help.specs.FaultTexts.{fault_text, header_fault_text, later_fault_text};
 
 /// How many faults there are. Their numbers are 1 to this.
-pub const FAULT_COUNT: u64 = 40;
+pub const FAULT_COUNT: u64 = 41;
 
 const NOT_QCOW2: &str = "\
 fault 1, NotQcow2: A qcow2 image begins with the four bytes 51 46 49 fb.
@@ -259,9 +259,11 @@ Restore the image from a copy, or save what can be read by `qemu-img convert -O 
 
 const IN_USE: &str = "\
 fault 39, InUse: An image that is changed must be used by nobody else.
-A virtual machine, a program of QEMU's or another `qmeta` has it open; nothing of it was read or
-written.
-End that program first; `fuser -v IMAGE` names it.
+A virtual machine, a program of QEMU's or another `qmeta` has it open, or opened it while it was changed:
+what was done by then stays, as after a crash. Or nobody knows, and nothing was done: the system's list of
+locks can't be read, as in a chroot without /proc, or lists no locks of the file.
+End that program first; `fuser -v IMAGE` names it. Then run `qmeta check IMAGE`. Without a list make sure
+that nobody has the image open, and set QMETA_NO_LOCK_LIST=allow in the environment.
 ";
 
 const SHARED: &str = "\
@@ -269,6 +271,13 @@ fault 40, Shared: An L2 table that `apply` edits must have one reference, and it
 A snapshot shares the table, or its counter or copied flag is wrong.
 With snapshots let the guest write there first, or delete them; without any run `qmeta check IMAGE
 repair`.
+";
+
+const L1_SHORT: &str = "\
+fault 41, L1Short: The L1 table must have an entry for each part of the disk, as the header's size says.
+The header is damaged: its size, l1_size or cluster bits. A change could free clusters that are in use.
+Restore the header from a copy; `qmeta explain 41 IMAGE` says how many entries there are and how many
+the disk needs.
 ";
 
 /// What the fault of a number means, if there is one: its number and name, the rule of the format or of a
@@ -340,6 +349,7 @@ fn later_fault_help(number: u64) -> Option<&'static str>
         38 => Some(OVERLAP),
         39 => Some(IN_USE),
         40 => Some(SHARED),
+        41 => Some(L1_SHORT),
         _ => None,
     }
 }

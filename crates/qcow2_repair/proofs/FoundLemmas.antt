@@ -13,7 +13,7 @@ use Rattle.qcow2_check.specs.Uses.{ImageTables, all_load, image_tables, image_us
 use Rattle.qcow2_repair.proofs.HeaderLemmas.{kept-written, repairable-l1, repairable-written, text-fits}
 use Rattle.qcow2_repair.proofs.RefusalsLemmas.{repairable-unless_refused}
 use Rattle.qcow2_repair.specs.Repair.{IsRepairable, MakesWritable, tables_in}
-use Rattle.qcow2_repair.specs.Refusals.{findings_refusal, repairable_tables}
+use Rattle.qcow2_repair.specs.Refusals.{findings_refusal, header_refusal, repairable_tables, unrefused_tables}
 
 -- where a chain of steps isn't refused, none of them is
 then-parts : {A B : Type 0} (answer : Result A Fault) (next : A → Result B Fault) (value : B) → and_then answer next ≡ Ok value
@@ -51,7 +51,7 @@ pub record AreChecked (header : HeaderRecord) (image : Image) (tables : ImageTab
   pub placed : blocks_fault tables.header tables.reftable ≡ None
   pub loads : all_load (geometry_of tables.header) tables.l1 image ≡ Ok (tt {0})
 
-checked-parts : (header : HeaderRecord) (image : Image) (tables : ImageTables) → checked_tables header image ≡ Ok tables → AreChecked header image tables
+pub checked-parts : (header : HeaderRecord) (image : Image) (tables : ImageTables) → checked_tables header image ≡ Ok tables → AreChecked header image tables
 checked-parts header image tables is =
     let rest : List ℕ → Result ImageTables Fault = λ l1. and_then (placed_reftable header image) (λ reftable.
     result_map (λ _. image_tables header l1 reftable) (all_load (geometry_of header) l1 image)) in
@@ -66,7 +66,8 @@ checked-parts header image tables is =
 -- and so are those of one that isn't refused
 pub checked-found : (header : HeaderRecord) (image : Image) (tables : ImageTables) → repairable_tables header image ≡ Ok tables → AreChecked header image tables
 checked-found header image tables is =
-    let found = then-parts (checked_tables header image) (λ tables. unless_refused (findings_refusal header tables.reftable (image_findings tables image)) (Ok tables)) tables is in
+    let unrefused = (fine-parts (header_refusal header) (unrefused_tables header image) tables is).1 in
+    let found = then-parts (checked_tables header image) (λ tables. unless_refused (findings_refusal header tables.reftable (image_findings tables image)) (Ok tables)) tables unrefused in
     let fine = fine-parts (findings_refusal header found.0.reftable (image_findings found.0 image)) (Ok found.0) tables found.2 in
     subst (AreChecked header image) (ok-same found.0 tables fine.1) (checked-parts header image found.0 found.1)
 
@@ -74,7 +75,8 @@ checked-found header image tables is =
 pub found-repairable : (header : HeaderRecord) (image : Image) (tables : ImageTables) → IsClusterBits header.v2.cluster_bits → header.base.refcount_order ≤ 6
     → IsBytes image → repairable_tables header image ≡ Ok tables → IsRepairable (image_tables header tables.l1 tables.reftable) image
 found-repairable header image tables bits orders bytes is =
-    let found = then-parts (checked_tables header image) (λ tables. unless_refused (findings_refusal header tables.reftable (image_findings tables image)) (Ok tables)) tables is in
+    let unrefused = (fine-parts (header_refusal header) (unrefused_tables header image) tables is).1 in
+    let found = then-parts (checked_tables header image) (λ tables. unless_refused (findings_refusal header tables.reftable (image_findings tables image)) (Ok tables)) tables unrefused in
     let fine = fine-parts (findings_refusal header found.0.reftable (image_findings found.0 image)) (Ok found.0) tables found.2 in
     let checked = checked-parts header image found.0 found.1 in
     subst (λ tables. IsRepairable (image_tables header tables.l1 tables.reftable) image) (ok-same found.0 tables fine.1)

@@ -97,7 +97,7 @@ l1-past-first tables image k is below first =
     omega (arith, fixed, (excludes uses 0 apart).0 (omega (arith, fixed)), uses_by_kind uses 0)
 
 -- so the L2 tables stay where only bytes of the first cluster change
-l2-past-first : (tables : ImageTables) (old new : Image) (len : ℕ) (table : HostCluster) → IsRepairable tables old → SameOutside 0 len old new
+pub l2-past-first : (tables : ImageTables) (old new : Image) (len : ℕ) (table : HostCluster) → IsRepairable tables old → SameOutside 0 len old new
     → len ≤ 2 ^ tables.header.v2.cluster_bits → NamesTable tables.header tables.l1 table
     → l2_in tables.header table new ≡ l2_in tables.header table old
 l2-past-first tables old new len table is outside fits names = table-same (geometry_of tables.header) table old new is.bits.0
@@ -191,7 +191,7 @@ found-fault header fault (inr outside) = inr (inr (inr outside))
 pub pass-fault-said : (header written : HeaderRecord) (fault : Fault) → SaysSame header written → IsPassFault written fault
     → IsRepairRefusal header fault ⊎ IsWritableFault header fault
 pass-fault-said header written fault says (inl table) = inl (inl (inr (inl (l1-fault-said header written fault says table))))
-pass-fault-said header written fault says (inr (inl range)) = inl (inr (inr range))
+pass-fault-said header written fault says (inr (inl range)) = inl (inr (inr (inl range)))
 pass-fault-said header written fault says (inr (inr outside)) = inr (inr (inr outside))
 
 -- an image can be repaired as before after its header is written, which says the same

@@ -1,21 +1,24 @@
-use Rattle.std.proofs.Common.{◌≡◌, ◌⊎◌, ℕ, zero, suc, false, true, ◌+◌, ◌-◌, ◌*◌, ◌/◌, ◌%◌, ◌^◌, ◌<◌, ◌≤◌, List, Option, Some, None, IsSome, Ok, Err, refl, subst, inl, inr, arith}
+use Rattle.std.proofs.Common.{◌≡◌, ◌≢◌, ◌⊎◌, ℕ, Bool, zero, suc, false, true, ap, ◌+◌, ◌-◌, ◌*◌, ◌/◌, ◌%◌, ◌^◌, ◌<◌, ◌≤◌, List, Option, Some, None, IsSome, Ok, Err, refl, subst, inl, inr, arith}
 use Rattle.std.proofs.lemmas.Bool.{cases_lt}
 use Rattle.std.proofs.lemmas.Bool.Decides.{nat_tests}
 use Rattle.qcow2_base.specs.Format.{max_file_length}
 use Rattle.qcow2_base.specs.Storage.{Image, IsBytes, OnImage, OnlyReads, StorageState}
 use Rattle.qcow2_base.specs.Types.{IsClusterBits}
 use Rattle.qcow2_base.specs.declared.fault.Fault.{Fault}
-use Rattle.qcow2_metadata.specs.Header.{HeaderRecord, geometry_of}
+use Rattle.qcow2_base.specs.declared.fault.Fault.TheVariants.{L1Short, Storage, Uncounted}
+use Rattle.qcow2_base.specs.declared.fault.UncountedPart.{UncountedPart}
+use Rattle.qcow2_metadata.specs.Header.{HeaderRecord, geometry_of, uncounted_part}
 use Rattle.qcow2_metadata.specs.Refblock.{greatest_counter}
 use Rattle.qcow2_metadata.specs.Results.{Reads, unless_refused}
 use Rattle.qcow2_check.proofs.CountersLemmas.{counter-fits}
 use Rattle.qcow2_check.proofs.FindingsListLemmas.{pass-one, take-one}
 use Rattle.qcow2_check.specs.Counters.{block_of_cluster, blocks_fault}
 use Rattle.qcow2_check.specs.Findings.{FindingsState, IsFindingsOf, checked_tables, finding_at, findings_from, findings_left, image_findings, is_shared, is_wrong, tables_of}
+use Rattle.qcow2_check.specs.L1Length.{is_l1_short}
 use Rattle.qcow2_check.specs.Uses.{ImageTables, all_load, image_tables, image_uses}
 use Rattle.qcow2_check.specs.declared.findings.Finding.{Finding}
 use Rattle.qcow2_repair.specs.Repair.{IsRepairable, image_uses_of}
-use Rattle.qcow2_repair.specs.Refusals.{IsFindingRefusal, IsRepairRefusal, findings_refusal, refusal_of, repairable_tables}
+use Rattle.qcow2_repair.specs.Refusals.{IsFindingRefusal, IsRepairRefusal, findings_refusal, header_refusal, refusal_of, repairable_tables, unrefused_tables}
 
 -- a fact of each refcount order
 order-cases : (P : ℕ → Type 0) → P 0 → P 1 → P 2 → P 3 → P 4 → P 5 → P 6 → (order : ℕ) → order ≤ 6 → P order
@@ -137,7 +140,7 @@ pub refused-reads : {A T : Type 0} (view : T → ImageTables) (header : HeaderRe
     → reader.header ≡ header → reader.position ≡ 0 → OnImage old (λ bytes. checked_tables header bytes ≡ Ok (tables_of reader)) → OnlyReads (Ok value) old now
     → Reads {T = Unit {0}} (λ done. done) (Err fault) (λ bytes. unless_refused (findings_refusal reader.header reader.counters.reftable (findings_left reader bytes)) (Ok (tt {0})))
     IsFindingRefusal now later
-    → Reads {T = T} view (Err fault) (repairable_tables header) (IsRepairRefusal header) old later
+    → Reads {T = T} view (Err fault) (unrefused_tables header) (IsRepairRefusal header) old later
 refused-reads view header reader value fault old now later is begun checked one reads = record {
   exact = λ told. elim (reads.exact (rw one.device.tells told)) [
     | inl failed ↦ inl failed
@@ -147,16 +150,55 @@ refused-reads view header reader value fault old now later is begun checked one 
           let refused_old = rw one.bytes at refused in
           let all = rw (all-left reader old.byte_at begun) at refused_old in
           let here : checked_tables reader.header old.byte_at ≡ Ok (tables_of reader) = rw (← is) at (checked told) in
-          let whole : repairable_tables reader.header old.byte_at ≡ Err fault = rw here (still-refused _ _ _ _ all) in
+          let whole : unrefused_tables reader.header old.byte_at ≡ Err fault = rw here (still-refused _ _ _ _ all) in
           inr (inr (rw is at whole))
     ]
   ];
   faults = elim reads.faults [
     | inl refusal ↦ elim refusal [
       | inl entry ↦ inl (inl (inr (inl (inr entry))))
-      | inr other ↦ inl (inr other)
+      | inr (inl overlap) ↦ inl (inr (inl overlap))
+      | inr (inr range) ↦ inl (inr (inr (inl range)))
     ]
     | inr outside ↦ inr outside
   ];
   storage = only-reads _ _ old now later one reads.storage;
 }
+
+-- what refuses is a fault
+pub refused-is : (found : Option Fault) (fault : Fault) → unless_refused found (Ok (tt {0})) ≡ Err fault → found ≡ Some fault
+refused-is None fault is = absurd (grind (arith, is))
+refused-is (Some other) fault is = grind (arith, is)
+
+-- a header by which an image can't be repaired is refused by one of the refusals of a repair, which isn't the storage's fault
+pub header-cause : (header : HeaderRecord) (fault : Fault) → header_refusal header ≡ Some fault → IsRepairRefusal header fault × (fault ≢ Storage)
+header-cause header fault is = by_part (uncounted_part header) refl
+  where
+    by_length : (short : Bool) → uncounted_part header ≡ None → is_l1_short header ≡ short → IsRepairRefusal header fault × (fault ≢ Storage)
+    by_length true none short =
+        let same : L1Short ≡ fault = grind (arith, none, short, is) in
+        (inr (inr (inr (rw short (ap Some same)))), λ storage. grind (arith, same, storage))
+    by_length false none long = absurd (grind (arith, none, long, is))
+
+    by_part : (part : Option UncountedPart) → uncounted_part header ≡ part → IsRepairRefusal header fault × (fault ≢ Storage)
+    by_part None none = by_length (is_l1_short header) none refl
+    by_part (Some part) there =
+        let same : Uncounted part ≡ fault = grind (arith, there, is) in
+        (inl (inl (rw there (ap Some same))), λ storage. grind (arith, same, storage))
+
+-- so nothing is read of an image with such a header
+pub refused-by-header : {T : Type 0} (view : T → ImageTables) (header : HeaderRecord) (fault : Fault) (state : StorageState)
+    → unless_refused (header_refusal header) (Ok (tt {0})) ≡ Err fault
+    → Reads {T = T} view (Err fault) (repairable_tables header) (IsRepairRefusal header) state state
+refused-by-header view header fault state refused =
+    let is = refused-is (header_refusal header) fault refused in
+    let cause = header-cause header fault is in
+    record {
+      exact = λ told. inr (inr (rw is refl));
+      faults = inl cause.0;
+      storage = record {
+        told = grind (arith, cause.1);
+        bytes = refl;
+        device = record { tells = refl; mem_align = refl; req_align = refl };
+      };
+    }

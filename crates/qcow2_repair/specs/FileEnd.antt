@@ -1,14 +1,16 @@
 -- Does the file of an image have the tables and refcount blocks that the image names?
-use Rattle.std.specs.Prelude.{ℕ, ◌+◌, ◌*◌, ◌^◌, nat_le, Bool, true, ◌==◌, ◌&&◌, ◌||◌, if◌then◌else◌, List, Option, Some, None, option_map, Result, Ok, Err}
+use Rattle.std.specs.Prelude.{ℕ, ◌+◌, ◌*◌, ◌^◌, nat_le, Bool, true, ◌==◌, ◌&&◌, ◌||◌, ◌⊎◌, if◌then◌else◌, List, Option, Some, None, Result, Ok, Err}
 use Rattle.std.specs.Int.{div_ceil}
 use Rattle.std.specs.List.{list_all}
 use Rattle.qcow2_base.specs.Storage.{Image}
 use Rattle.qcow2_base.specs.declared.fault.Fault.{Fault}
-use Rattle.qcow2_base.specs.declared.fault.Fault.TheVariants.{TablePlace, Uncounted}
+use Rattle.qcow2_base.specs.declared.fault.Fault.TheVariants.{TablePlace}
 use Rattle.qcow2_base.specs.declared.types.HostCluster.{HostCluster}
-use Rattle.qcow2_metadata.specs.Header.{HeaderRecord, uncounted_part}
-use Rattle.qcow2_metadata.specs.Results.{and_then, unless_refused}
-use Rattle.qcow2_check.specs.NamedTables.{l1_cluster, loaded_l1_table, loaded_reftable, named_block, named_cluster, reftable_cluster}
+use Rattle.qcow2_metadata.specs.Header.{HeaderRecord}
+use Rattle.qcow2_metadata.specs.Results.{and_then}
+use Rattle.qcow2_metadata.specs.Table.{IsTableFault}
+use Rattle.qcow2_check.specs.Counters.{IsReftableFault}
+use Rattle.qcow2_check.specs.NamedTables.{l1_cluster, l1_layout, loaded_l1_table, loaded_reftable, named_block, named_cluster, reftable_cluster}
 use Rattle.qcow2_check.specs.Uses.{ImageTables, image_tables}
 
 -- whether a file of that many clusters, the last of which may be cut, has that many clusters from one on
@@ -38,11 +40,14 @@ abbrev pub has_all_tables : ℕ → ImageTables → Bool
 has_all_tables file tables = let cb = tables.header.v2.cluster_bits in
     has_header_tables file tables.header && has_blocks file cb tables.reftable && has_l2_tables file cb tables.l1
 
--- why an image with this header, in a file of this length, can't be repaired by tables that the file has, if it can't: a part
--- that isn't read here, the L1 table, the refcount table, or a table or block that the file doesn't have
+-- why a file of this length doesn't have all tables of an image with this header, if it doesn't: the L1 table, the refcount
+-- table, or a table or block that ends past the file's end
 abbrev pub tables_in_file : ℕ → HeaderRecord → Image → Result (Unit {0}) Fault
-tables_in_file file_length header image = unless_refused (option_map Uncounted (uncounted_part header))
-    (and_then (loaded_l1_table header image) (λ l1.
+tables_in_file file_length header image = and_then (loaded_l1_table header image) (λ l1.
     and_then (loaded_reftable header image) (λ reftable.
     let file = div_ceil file_length (2 ^ header.v2.cluster_bits) in
-    if has_all_tables file (image_tables header l1 reftable) then Ok tt else Err TablePlace)))
+    if has_all_tables file (image_tables header l1 reftable) then Ok tt else Err TablePlace))
+
+-- these refusals
+abbrev pub IsTablesFault : HeaderRecord → Fault → Type 0
+IsTablesFault header fault = IsTableFault (l1_layout header) (l1_cluster header) fault ⊎ IsReftableFault header fault

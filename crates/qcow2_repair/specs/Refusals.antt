@@ -1,15 +1,16 @@
 -- Which findings does a repair refuse, and what are the tables of an image that none of them is refused of?
-use Rattle.std.specs.Prelude.{◌≡◌, ◌⊎◌, ℕ, ◌&&◌, nat_lt, if◌then◌else◌, is_some, List, [], ◌∷◌, Option, Some, None, Result, Ok}
+use Rattle.std.specs.Prelude.{◌≡◌, ◌⊎◌, ℕ, ◌&&◌, nat_lt, if◌then◌else◌, is_some, List, [], ◌∷◌, Option, Some, None, option_map, Result, Ok}
 use Rattle.std.specs.Option.{option_or}
 use Rattle.qcow2_base.specs.Storage.{Image}
 use Rattle.qcow2_base.specs.declared.fault.Fault.{Fault}
-use Rattle.qcow2_base.specs.declared.fault.Fault.TheVariants.{CounterRange, Overlap}
-use Rattle.qcow2_metadata.specs.Header.{HeaderRecord}
+use Rattle.qcow2_base.specs.declared.fault.Fault.TheVariants.{CounterRange, Overlap, Uncounted}
+use Rattle.qcow2_metadata.specs.Header.{HeaderRecord, uncounted_part}
 use Rattle.qcow2_metadata.specs.Refblock.{greatest_counter}
 use Rattle.qcow2_metadata.specs.Results.{and_then, unless_refused}
 use Rattle.qcow2_metadata.specs.Table.{IsEntryFault}
 use Rattle.qcow2_check.specs.Counters.{block_of_cluster}
 use Rattle.qcow2_check.specs.Findings.{IsCheckFault, checked_tables, image_findings}
+use Rattle.qcow2_check.specs.L1Length.{short_l1_refusal}
 use Rattle.qcow2_check.specs.Uses.{ImageTables}
 use Rattle.qcow2_check.specs.declared.findings.Finding.{Finding}
 
@@ -27,10 +28,19 @@ findings_refusal header reftable [] = None
 findings_refusal header reftable (finding ∷ findings) =
     option_or (refusal_of header reftable finding) (findings_refusal header reftable findings)
 
--- the tables of an image with this header that can be repaired, or the first fault: that of a check, or of a finding
-abbrev pub repairable_tables : HeaderRecord → Image → Result ImageTables Fault
-repairable_tables header image = and_then (checked_tables header image) (λ tables.
+-- why an image with this header can't be repaired, whatever its tables say: a part that isn't read here, or an L1 table that is
+-- too short for the disk
+abbrev pub header_refusal : HeaderRecord → Option Fault
+header_refusal header = option_or (option_map Uncounted (uncounted_part header)) (short_l1_refusal header)
+
+-- the tables of an image by which it can be repaired, or the first fault: that of a check, or of a finding
+abbrev pub unrefused_tables : HeaderRecord → Image → Result ImageTables Fault
+unrefused_tables header image = and_then (checked_tables header image) (λ tables.
     unless_refused (findings_refusal header tables.reftable (image_findings tables image)) (Ok tables))
+
+-- the same of an image with this header that can be repaired
+abbrev pub repairable_tables : HeaderRecord → Image → Result ImageTables Fault
+repairable_tables header image = unless_refused (header_refusal header) (unrefused_tables header image)
 
 -- the faults of findings that are looked at: a table's entry is refused, or a finding is
 abbrev pub IsFindingRefusal : Fault → Type 0
@@ -39,3 +49,4 @@ IsFindingRefusal fault = IsEntryFault fault ⊎ (fault ≡ Overlap) ⊎ (fault �
 -- the refusals of a repair before it writes
 abbrev pub IsRepairRefusal : HeaderRecord → Fault → Type 0
 IsRepairRefusal header fault = IsCheckFault header fault ⊎ (fault ≡ Overlap) ⊎ (fault ≡ CounterRange)
+    ⊎ (short_l1_refusal header ≡ Some fault)

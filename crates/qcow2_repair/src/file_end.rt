@@ -3,9 +3,8 @@
 ghost use Rattle.std.specs.Prelude.{◌≡◌};
 ghost use Rattle.qcow2_metadata.specs.Header.{geometry_of};
 ghost use Rattle.qcow2_metadata.specs.Results.{Reads};
-ghost use Rattle.qcow2_check.specs.Findings.{IsCheckFault};
 ghost use Rattle.qcow2_check.specs.Uses.{image_tables};
-ghost use Rattle.qcow2_repair.specs.FileEnd.{has_all_tables, has_blocks, has_clusters, has_header_tables, has_l2_tables, has_named, tables_in_file};
+ghost use Rattle.qcow2_repair.specs.FileEnd.{IsTablesFault, has_all_tables, has_blocks, has_clusters, has_header_tables, has_l2_tables, has_named, tables_in_file};
 
 use qcow2_base::{ClusterCount, Fault, HostCluster, Storage};
 use qcow2_check::{load_l1_table, load_reftable, named_block, named_cluster};
@@ -13,12 +12,12 @@ use qcow2_metadata::{Header, L1Table, RefTable, Table};
 use std::alloc::Global;
 
 /// Refuses an image with this header whose file, of this length in bytes, doesn't have all tables and
-/// refcount blocks that the image names. Bytes past a file's end read as zeros, so a repair would free what
-/// such a table names. The file's last cluster may be cut.
+/// refcount blocks that the header and the active L1 table name. Bytes past a file's end read as zeros, so
+/// a repair would free what such a table names, and a write would lengthen the file and hide that it was
+/// cut. The file's last cluster may be cut.
 ///
-/// Returns the first of these faults: 37 where the image has snapshots, bitmaps or LUKS encryption, that of
-/// the L1 table, that of the refcount table, or 21 where a table or block has a cluster past the file's end.
-/// Changes no byte.
+/// Returns the first of these faults: that of the L1 table, that of the refcount table, or 21 where a
+/// table or block has a cluster past the file's end. Changes no byte.
 pub fn refuse_tables_past_end<S: Storage>(
     alloc: Global,
     image: &mut S,
@@ -26,11 +25,8 @@ pub fn refuse_tables_past_end<S: Storage>(
     file_length: u64,
 ) -> Result<(), Fault>
     ensures reads { Reads (λ done. done) result (tables_in_file file_length header.now)
-        (IsCheckFault header.now) (S.state image.old) (S.state image.new) }
+        (IsTablesFault header.now) (S.state image.old) (S.state image.new) }
 {
-    if let Some(part) = header.uncounted_part() {
-        return Err(Fault::Uncounted(part));
-    }
     let l1_table = load_l1_table(alloc, image, header)?;
     let reftable = load_reftable(alloc, image, header)?;
     let file = ClusterCount::from_byte_size(file_length, header.cluster_bits());

@@ -11,4 +11,5 @@ mod repair;
 mod tables;
 
 pub use file_end::refuse_tables_past_end;
+pub use refusals::refuse_unrepairable;
 pub use repair::repair_image;

@@ -1,5 +1,5 @@
-//! What a repair refuses before it writes: uses of a cluster that exclude each other, and more uses than a
-//! counter holds.
+//! What a repair refuses before it writes: parts that aren't read here, an L1 table that is too short,
+//! uses of a cluster that exclude each other, and more uses than a counter holds.
 
 ghost use Rattle.std.specs.Prelude.{◌≡◌, ◌⊎◌, ◌≤◌, IfErr, IfOk, MatchResult, None, Ok, Some};
 ghost use Rattle.qcow2_base.specs.Storage.{OnImage};
@@ -11,10 +11,10 @@ ghost use Rattle.qcow2_check.specs.Counters.{blocks_fault};
 ghost use Rattle.qcow2_check.specs.Findings.{IsFindingsOf, MovesFindings, findings_left};
 ghost use Rattle.qcow2_check.specs.Uses.{image_tables};
 ghost use Rattle.qcow2_repair.specs.Repair.{IsRepairable};
-ghost use Rattle.qcow2_repair.specs.Refusals.{IsFindingRefusal, IsRepairRefusal, findings_refusal, refusal_of, repairable_tables};
+ghost use Rattle.qcow2_repair.specs.Refusals.{IsFindingRefusal, IsRepairRefusal, findings_refusal, header_refusal, refusal_of, repairable_tables, unrefused_tables};
 
 use qcow2_base::{Fault, Storage};
-use qcow2_check::{Finding, Findings};
+use qcow2_check::{Finding, Findings, refuse_short_l1};
 use qcow2_metadata::{Header, L1Table, RefTable};
 use std::alloc::Global;
 
@@ -60,10 +60,44 @@ fn check_findings<S: Storage>(findings: &mut Findings<'_>, image: &mut S) -> Res
     Ok(())
 }
 
+// The L1 table and the refcount table by which an image can be repaired, whatever its header says of parts
+// that aren't read here and of the L1 table's length.
+fn unrefused_tables<S: Storage>(
+    alloc: Global,
+    image: &mut S,
+    header: &Header,
+) -> Result<(L1Table, RefTable), Fault>
+    ensures reads { Reads (λ found. image_tables header.now found.0.numbers found.1.numbers) result
+        (unrefused_tables header.now) (IsRepairRefusal header.now) (S.state image.old) (S.state image.new) }
+    ensures tables { IfOk result (λ found. (found.0.geometry ≡ geometry_of header.now)
+        × (found.1.geometry ≡ geometry_of header.now)
+        × (blocks_fault header.now found.1.numbers ≡ None)) }
+    ensures repairable { IfOk result (λ found. OnImage (S.state image.old)
+        (IsRepairable (image_tables header.now found.0.numbers found.1.numbers))) }
+{
+    prove!(header.cluster_bits() <= 21);
+    prove!(header.refcount_order() <= 6);
+    let mut findings = Findings::new(alloc, image, header)?;
+    check_findings(&mut findings, image)?;
+    Ok(findings.into_tables())
+}
+
+/// Refuses an image with this header that can't be repaired whatever its tables say: 37 where it has
+/// snapshots, bitmaps or LUKS encryption, 41 where its L1 table is too short for its disk.
+pub fn refuse_unrepairable(header: &Header) -> Result<(), Fault>
+    ensures { result ≡ unless_refused (header_refusal header.now) (Ok tt) }
+{
+    if let Some(part) = header.uncounted_part() {
+        return Err(Fault::Uncounted(part));
+    }
+    refuse_short_l1(header)
+}
+
 /// The L1 table and the refcount table of an image with this header that can be repaired.
 ///
-/// Returns the fault of `Findings::new`, or that of the first cluster that can't be repaired: 38 where its
-/// uses exclude each other, 30 where its counter can't hold their number. Changes no byte.
+/// Returns the fault of `refuse_unrepairable` or of `Findings::new`, or that of the first cluster that
+/// can't be repaired: 38 where its uses exclude each other, 30 where its counter can't hold their number.
+/// Changes no byte.
 pub(crate) fn repairable_tables<S: Storage>(
     alloc: Global,
     image: &mut S,
@@ -77,9 +111,6 @@ pub(crate) fn repairable_tables<S: Storage>(
     ensures repairable { IfOk result (λ found. OnImage (S.state image.old)
         (IsRepairable (image_tables header.now found.0.numbers found.1.numbers))) }
 {
-    prove!(header.cluster_bits() <= 21);
-    prove!(header.refcount_order() <= 6);
-    let mut findings = Findings::new(alloc, image, header)?;
-    check_findings(&mut findings, image)?;
-    Ok(findings.into_tables())
+    refuse_unrepairable(header)?;
+    unrefused_tables(alloc, image, header)
 }

@@ -31,11 +31,12 @@ use std::alloc::Global;
 /// of clusters that have one. Nothing of a step is written before `Storage::sync` has put all of the one
 /// before on the device. Nothing else changes.
 ///
-/// Returns the fault of `Findings::new`, or of the first cluster that can't be repaired: 38 where its uses
-/// exclude each other, 30 where its counter can't hold their number. Then comes 24, where the header has no
-/// room, or 25 for a name that no loaded header has. No byte has changed then. Where memory runs out, a part
-/// of the steps may be done, and each counter and each entry is the old one or that of its step. Where the
-/// storage fails, any bytes may be in the header's text besides, or in one table or block.
+/// Returns the fault of `refuse_unrepairable` or of `Findings::new`, or of the first cluster that can't be
+/// repaired: 38 where its uses exclude each other, 30 where its counter can't hold their number. Then
+/// comes 24, where the header has no room, or 25 for a name that no loaded header has. No byte has changed
+/// then. Where memory runs out, a part of the steps may be done, and each counter and each entry is the
+/// old one or that of its step. Where the storage fails, any bytes may be in the header's text besides, or
+/// in one table or block.
 ///
 /// A storage doesn't know where its image ends. Who does calls `refuse_tables_past_end` first.
 pub fn repair_image<S: Storage>(

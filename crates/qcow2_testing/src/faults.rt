@@ -82,4 +82,6 @@ pub const FAULTS: &[ReportedFault] = faults! {
         "an L2 table that is edited must have no other reference, that of edit 0 may have one",
     Fault::Shared(5_000_000_003) => 40 Other
         "an L2 table that is edited must have no other reference, that of edit 5000000003 may have one",
+    Fault::L1Short => 41 InvalidData
+        "the L1 table must have an entry for each part of the disk, it has too few",
 };

@@ -1,25 +1,10 @@
-use Rattle.std.proofs.Common.{rules, ap, ◌∙◌}
+use Rattle.std.proofs.Common.{sym}
 use Rattle.std.proofs.lemmas.Result.{err_from_is_err_and}
-use Rattle.qcow2_check.specs.Findings.{FindingsState}
-use Rattle.qcow2_repair.proofs.RefusalsLemmas.{refused-reads, repairable-found}
+use Rattle.qcow2_repair.proofs.RefusalsLemmas.{refused-by-header}
 use Rattle.qcow2_repair.proofs.refusals.repairable_tables.Goals as goal
 
-pub returns-in_err-check_findings-clause-reads : goal.returns-in_err-check_findings-clause-reads
-returns-in_err-check_findings-clause-reads g c =
-    let exit = err_from_is_err_and c.from_residual-in_err-check_findings.result c.from_residual-in_err-check_findings.ensures.1 in
-    let begun = c.in_ok-findings.ensures in
-    rw (exit.1, exit.2) (refused-reads _ c.args.header.now c.in_ok-findings.findings c.in_ok-findings.findings c.in_err-check_findings.field-0.0
-    (g.S.Storage.state c.args.image.now) (g.S.Storage.state c.new.new.image) (g.S.Storage.state c.check_findings.new.image)
-    begun.begun.0 begun.begun.1 begun.reads.exact begun.reads.storage c.in_err-check_findings.ensures.reads)
-
-pub returns-clause-repairable : goal.returns-clause-repairable
-returns-clause-repairable g c =
-    let begun = c.in_ok-findings.ensures in
-    let moved = c.in_ok-check_findings.ensures.reader.same in
-    repairable-found c.args.header.now c.in_ok-findings.findings c.into_tables.result.0.numbers c.into_tables.result.1.numbers c.in_ok-findings.findings
-    (g.S.Storage.state c.args.image.now) (g.S.Storage.state c.new.new.image)
-    (search rules) (search rules) begun.begun.0 begun.begun.1
-    (c.into_tables.ensures.numbers.0 ∙ ap (λ (r : FindingsState). r.l1) moved)
-    (c.into_tables.ensures.numbers.1 ∙ ap (λ (r : FindingsState). r.counters.reftable) moved)
-    (rw moved at c.into_tables.ensures.placed)
-    (g.met.S.Storage.byte_fits c.args.image.now) begun.reads.storage begun.reader c.in_ok-check_findings.ensures.reads.exact
+pub returns-in_err-refuse_unrepairable-clause-reads : goal.returns-in_err-refuse_unrepairable-clause-reads
+returns-in_err-refuse_unrepairable-clause-reads g c =
+    let exit = err_from_is_err_and c.from_residual.result c.from_residual.ensures.1 in
+    rw (exit.1, exit.2) (refused-by-header _ c.args.header.now c.in_err-refuse_unrepairable.field-0.0 (g.S.Storage.state c.args.image.now)
+    (sym c.in_err-refuse_unrepairable.ensures))
