@@ -15,7 +15,7 @@ mod slice;
 use crate::Fault;
 pub use file::FileStorage;
 pub use image_file::ImageFile;
-pub use image_files::{ImageFiles, regular_len};
+pub use image_files::{ImageFiles, file_len};
 pub use memory::MemStorage;
 pub use slice::SliceStorage;
 use thiserror::Error;

@@ -1,7 +1,10 @@
 //! Locks as lines of a list have them, which of them bar writing, and an image that is held.
 
-use qcow2_base::Fault;
-use qcow2_locks::{FileId, FileLock, LockKind, hold_alone};
+mod listing;
+
+use listing::Listing;
+use qcow2_base::{Fault, ImageFiles, Storage};
+use qcow2_locks::{FileId, FileLock, GuardedFiles, HeldImage, LockKind, Unlisted, hold_alone};
 use qcow2_testing::{each, file_holds, rows, same, temporary_file, temporary_path};
 use std::alloc::Global;
 use std::fs;
@@ -131,10 +134,14 @@ fn a_lock_bars_writing_to_its_own_file() -> Result<(), Fail> {
     Ok(())
 }
 
+fn hold(rt: &HostRuntime, path: &str) -> Result<HeldImage, Fault> {
+    hold_alone(rt, path, Unlisted::Allow)
+}
+
 fn check_held(rt: &HostRuntime, path: &str, other: &str) -> Result<(), Fail> {
-    let _held = hold_alone(rt, path)?;
-    same(hold_alone(rt, path).err(), Some(Fault::InUse), "held")?;
-    same(hold_alone(rt, other).err(), None, "another file")
+    let _held = hold(rt, path)?;
+    same(hold(rt, path).err(), Some(Fault::InUse), "held")?;
+    same(hold(rt, other).err(), None, "another file")
 }
 
 #[test]
@@ -142,11 +149,7 @@ fn an_image_is_held_by_one_alone(rt: HostRuntime) -> Result<(), Fail> {
     let file = temporary_file(&rt, "held", &[1, 2, 3])?;
     let other = temporary_file(&rt, "not-held", &[])?;
     check_held(&rt, file.path.as_str(), other.path.as_str())?;
-    same(
-        hold_alone(&rt, file.path.as_str()).err(),
-        None,
-        "given back",
-    )?;
+    same(hold(&rt, file.path.as_str()).err(), None, "given back")?;
     file_holds(&rt, file.path.as_str(), &[1, 2, 3], "as it was")
 }
 
@@ -154,7 +157,198 @@ fn an_image_is_held_by_one_alone(rt: HostRuntime) -> Result<(), Fail> {
 fn only_a_file_that_is_there_is_held(rt: HostRuntime) -> Result<(), Fail> {
     let path = temporary_path(&rt, "not-there")?;
     for name in [path.as_str(), ".", ""] {
-        same(hold_alone(&rt, name).err(), Some(Fault::Storage), name)?;
+        same(hold(&rt, name).err(), Some(Fault::Storage), name)?;
     }
     same(fs::exists(&rt, path.as_str())?, false, path)
+}
+
+// What the system lists of a descriptor whose file is locked, and that lock in the list of all.
+const OWN: &str = "pos:\t0\nflags:\t02100002\nlock:\t1: FLOCK  ADVISORY  WRITE 9 fe:01:7 0 EOF\n";
+
+const FREE: &str =
+    "1: POSIX  ADVISORY  WRITE 5 fe:01:8 0 EOF\n2: FLOCK  ADVISORY  WRITE 9 fe:01:7 0 EOF\n";
+
+const BARRED: &str =
+    "1: OFDLCK ADVISORY  READ -1 fe:01:7 201 201\n2: FLOCK  ADVISORY  WRITE 9 fe:01:7 0 EOF\n";
+
+// What the system lists of a descriptor and of all, and by which fault an image isn't held then, also where
+// nothing of it may be listed.
+#[derive(Clone, Copy, Debug)]
+struct Lists {
+    own: Option<&'static str>,
+    all: Option<&'static str>,
+    refused: Option<Fault>,
+    allowed: Option<Fault>,
+}
+
+const LISTS: &[Lists] = rows! { Lists:
+    { own: Some(OWN), all: Some(FREE), refused: None, allowed: None },
+    { own: Some(OWN), all: Some(BARRED), refused: Some(Fault::InUse), allowed: Some(Fault::InUse) },
+    // no list, one of which nothing is shown, and one that lacks the lock from here
+    { own: Some(OWN), all: None, refused: Some(Fault::InUse), allowed: None },
+    { own: Some(OWN), all: Some(""), refused: Some(Fault::InUse), allowed: None },
+    { own: Some(OWN), all: Some("1: FLOCK  ADVISORY  WRITE 9 fe:02:7 0 EOF\n"),
+        refused: Some(Fault::InUse), allowed: None },
+    { own: None, all: Some(FREE), refused: Some(Fault::InUse), allowed: None },
+    { own: Some("pos:\t0\n"), all: Some(FREE), refused: Some(Fault::InUse), allowed: None },
+    // a line that doesn't end
+    { own: Some(OWN), all: Some("2: FLOCK  ADVISORY  WRITE 9 fe:01:7 0 EOF"), refused: None, allowed: None },
+};
+
+fn check_lists(rt: &HostRuntime, row: Lists) -> Result<(), Fail> {
+    let image = temporary_file(rt, "listed", &[])?;
+    let lists = Listing::new(rt, row.own, row.all)?;
+    let path = image.path.as_str();
+    let refused = hold_alone(&lists, path, Unlisted::Refuse).err();
+    same(refused, row.refused, row)?;
+    same(
+        hold_alone(&lists, path, Unlisted::Allow).err(),
+        row.allowed,
+        row,
+    )
+}
+
+#[test]
+fn an_image_of_which_nothing_is_listed_is_refused(rt: HostRuntime) -> Result<(), Fail> {
+    for row in LISTS {
+        check_lists(&rt, *row)?;
+    }
+    Ok(())
+}
+
+// As many lines as take several reads, and then those of a list.
+fn long_list(alloc: Global, lines: usize, end: &str) -> Result<String, Fail> {
+    let mut list = String::new(alloc);
+    for number in 0..lines {
+        writeln!(
+            list,
+            "{number}: POSIX  ADVISORY  WRITE 5 fe:01:{number}00 0 EOF"
+        )?;
+    }
+    list.push_str(end)?;
+    Ok(list)
+}
+
+fn check_long_list<'a>(
+    rt: &'a HostRuntime,
+    list: &'a str,
+    expected: Option<Fault>,
+) -> Result<(), Fail> {
+    let image = temporary_file(rt, "long", &[])?;
+    let lists = Listing::new(rt, Some(OWN), Some(list))?;
+    let held = hold_alone(&lists, image.path.as_str(), Unlisted::Refuse);
+    same(held.err(), expected, list)
+}
+
+#[test]
+fn a_long_list_is_read_to_its_end(rt: HostRuntime) -> Result<(), Fail> {
+    for lines in 80..100 {
+        let list = long_list(rt.alloc(), lines, FREE)?;
+        check_long_list(&rt, list.as_str(), None)?;
+        let list = long_list(rt.alloc(), lines, BARRED)?;
+        check_long_list(&rt, list.as_str(), Some(Fault::InUse))?;
+    }
+    let endless = long_list(rt.alloc(), 2, " ".repeat(rt.alloc(), 5000)?.as_str())?;
+    check_long_list(&rt, endless.as_str(), Some(Fault::Storage))
+}
+
+// What the system lists, a call of an image that is held, and whether it succeeds.
+type Step<'a> = (Option<&'a str>, Call, bool);
+
+#[derive(Clone, Copy, Debug)]
+enum Call {
+    Write,
+    Sync,
+}
+
+// Calls of an image one after the other, whether another program was seen to come, and the bytes that were
+// written by then.
+#[derive(Clone, Copy, Debug)]
+struct Run {
+    steps: &'static [Step<'static>],
+    is_in_use: bool,
+    written: &'static [u8],
+}
+
+const RUNS: &[Run] = rows! { Run:
+    { steps: &[(Some(FREE), Call::Write, true), (Some(FREE), Call::Sync, true),
+        (Some(FREE), Call::Write, true),
+        (Some(FREE), Call::Sync, true)], is_in_use: false, written: &[1, 1] },
+    // before the first write, and it stays so
+    { steps: &[(Some(BARRED), Call::Write, false), (Some(FREE), Call::Write, false),
+        (Some(FREE), Call::Sync, false)], is_in_use: true, written: &[] },
+    // before a wait is over
+    { steps: &[(Some(FREE), Call::Write, true), (Some(BARRED), Call::Sync, false),
+        (Some(FREE), Call::Write, false)], is_in_use: true, written: &[1] },
+    // between a wait and the write after it
+    { steps: &[(Some(FREE), Call::Write, true), (Some(FREE), Call::Sync, true),
+        (Some(BARRED), Call::Write, false)],
+        is_in_use: true, written: &[1] },
+    // within a step nobody looks
+    { steps: &[(Some(FREE), Call::Write, true), (Some(BARRED), Call::Write, true),
+        (Some(BARRED), Call::Sync, false)],
+        is_in_use: true, written: &[1, 1] },
+    // a list that is gone
+    { steps: &[(Some(FREE), Call::Write, true), (None, Call::Sync, false)], is_in_use: true, written: &[1] },
+};
+
+// Makes the calls of a run, each write of one byte more, and returns how many bytes were written.
+fn make_calls<'a, S: Storage>(
+    image: &mut S,
+    lists: &Listing<'a>,
+    steps: &[Step<'a>],
+) -> Result<usize, Fail> {
+    let mut written = 0usize;
+    for step in steps {
+        let (listed, call, succeeds) = *step;
+        lists.list(listed);
+        let result = match call {
+            Call::Write => image.write(&[1], written.min(99) as u64),
+            Call::Sync => image.sync(),
+        };
+        same(result.is_ok(), succeeds, *step)?;
+        if let (Call::Write, Ok(())) = (call, result) {
+            written = written.saturating_add(1);
+        }
+    }
+    Ok(written)
+}
+
+fn check_run(rt: &HostRuntime, row: Run) -> Result<(), Fail> {
+    let file = temporary_file(rt, "guarded", &[])?;
+    let path = file.path.as_str();
+    let lists = Listing::new(rt, Some(OWN), Some(FREE))?;
+    let held = hold_alone(&lists, path, Unlisted::Refuse)?;
+    let mut files = GuardedFiles::new(rt, &lists, Some(&held));
+    let mut image = files.open_image(path, true)?;
+    let written = make_calls(&mut image, &lists, row.steps)?;
+    same(written, row.written.len(), row)?;
+    same(files.is_in_use(path), row.is_in_use, row)?;
+    files.close_image(path, image);
+    file_holds(rt, path, row.written, row)
+}
+
+#[test]
+fn nothing_is_written_once_another_program_has_come(rt: HostRuntime) -> Result<(), Fail> {
+    for row in RUNS {
+        check_run(&rt, *row)?;
+    }
+    Ok(())
+}
+
+#[test]
+fn a_file_that_is_not_held_is_passed_on(rt: HostRuntime) -> Result<(), Fail> {
+    let file = temporary_file(&rt, "unguarded", &[])?;
+    let path = file.path.as_str();
+    let lists = Listing::new(&rt, None, None)?;
+    let mut files = GuardedFiles::new(&rt, &lists, None);
+    let mut image = files.open_image(path, true)?;
+    let written = make_calls(
+        &mut image,
+        &lists,
+        &[(None, Call::Write, true), (None, Call::Sync, true)],
+    )?;
+    same(files.is_in_use(path), false, written)?;
+    files.close_image(path, image);
+    file_holds(&rt, path, &[1], "passed on")
 }

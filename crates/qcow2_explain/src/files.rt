@@ -2,9 +2,10 @@
 
 use qcow2_base::Fault;
 use std::fs::{OpenFile, OpenOptions};
-use std::io;
-use std::io::ErrorKind;
+use std::io::{Error, ErrorKind};
+use std::os::unix::fs::FileTypeExt;
 use std::rt::Files;
+use std::{fs, io};
 
 /// The lines on a file that can't be opened to be read, and to be written to for fault 39, by the system's
 /// word. For fault 34 there are lines on any file.
@@ -27,8 +28,16 @@ pub(super) fn file_lines<R: Files + AllocGlobal>(
     })
 }
 
-// Opens a file for reading, or for both, and closes it. Nothing of it is read or written.
+// Opens a file for reading, or for both, and closes it. Nothing of it is read or written. A pipe isn't
+// opened, since that waits for who opens its other end.
 fn try_open<R: Files>(rt: &R, path: &str, writable: bool) -> io::Result<()> {
+    let file_type = fs::metadata(rt, path)?.file_type();
+    if file_type.is_fifo() {
+        return Err(Error::other("is a named pipe"));
+    }
+    if file_type.is_socket() {
+        return Err(Error::other("is a socket"));
+    }
     let mut options = OpenOptions::new();
     options.read(true).write(writable);
     let file = options.open(rt, path)?;

@@ -7,7 +7,7 @@ ghost use Rattle.qcow2_base.specs.declared.fault.Fault.TheVariants.{Storage as S
 use super::files::file_lines;
 use super::locks::lock_lines;
 use super::refusals::{Refusal, refusal_of};
-use qcow2_base::{Fault, FileStorage, Storage, regular_len};
+use qcow2_base::{Fault, FileStorage, Storage, file_len};
 use qcow2_buffered::BufferedStorage;
 use qcow2_metadata::Header;
 use std::alloc::{AllocError, Global};
@@ -53,7 +53,7 @@ fn locate_in_file<R: Files + AllocGlobal>(
     path: &str,
 ) -> Result<String, Fault> {
     let length = match number {
-        21 => regular_len(rt, path)?,
+        21 => file_len(rt, path)?,
         _ => None,
     };
     let mut file = FileStorage::open(rt, path, false)?;

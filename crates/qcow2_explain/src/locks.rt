@@ -2,11 +2,13 @@
 
 use qcow2_base::Fault;
 use qcow2_locks::{FileId, FileLock, LockKind, listed_locks};
+use std::alloc::{AllocError, Global};
 use std::fs;
 use std::io::ErrorKind;
 use std::rt::Files;
 
-/// The lines on the locks of a file for which it isn't changed, as the system lists them.
+/// The lines on the locks of a file for which it isn't changed, as the system lists them, or on a list that
+/// can't be read.
 pub(super) fn lock_lines<R: Files + AllocGlobal>(rt: &R, path: &str) -> Result<String, Fault> {
     match fs::metadata(rt, path) {
         Ok(metadata) => listed_lines(rt, &FileId::of(&metadata), path),
@@ -21,7 +23,9 @@ fn listed_lines<R: Files + AllocGlobal>(
     file: &FileId,
     path: &str,
 ) -> Result<String, Fault> {
-    let list = listed_locks(rt)?;
+    let Some(list) = listed_locks(rt)? else {
+        return Ok(unreadable_lines(rt.alloc(), path)?);
+    };
     let mut lines = String::new(rt.alloc());
     for line in list.lines() {
         if bars_change(line, file) {
@@ -35,6 +39,14 @@ fn listed_lines<R: Files + AllocGlobal>(
         writeln!(lines, "in {path}: no lock of another program is listed")?;
     }
     Ok(lines)
+}
+
+// The lines where no list says who has the file of a path open.
+fn unreadable_lines(alloc: Global, path: &str) -> Result<String, AllocError> {
+    format!(in alloc;
+        "in {path}: the system's list of locks can't be read: /proc/locks, /proc/self/fdinfo\n\
+        in {path}: QMETA_NO_LOCK_LIST=allow changes the image without it\n"
+    )
 }
 
 // Whether a line of the list is a lock for which a file isn't changed.

@@ -3,42 +3,101 @@
 ghost use Rattle.std.specs.Prelude.{◌≡◌, IfErr};
 ghost use Rattle.qcow2_locks.specs.HeldImage.{IsHoldFault};
 
+use crate::lock_list::{is_barred, own_locks};
 use crate::{FileId, FileLock};
 use qcow2_base::Fault;
-use std::alloc::Global;
+use std::cell::Cell;
 use std::fs::{File, OpenOptions, TryLockError};
 use std::io;
-use std::io::{BufReader, ErrorKind, Read};
 use std::os::fd::AsRawFd;
 use std::rt::Files;
+
+/// What becomes of an image that is to be changed where the system's list of locks says nothing of it.
+#[derive(Clone, Copy, Debug, PartialEq, Eq)]
+pub enum Unlisted {
+    /// Fault 39: another program may have it open.
+    Refuse,
+    /// It is changed, whoever else has it open.
+    Allow,
+}
 
 /// An image that is held, until this is dropped or the program ends.
 #[derive(Debug, Drop)]
 pub struct HeldImage {
     file: File,
+    // The file as the system's list of locks names it, unless that says nothing of it.
+    id: Option<FileId>,
+    unlisted: Unlisted,
+    has_come: Cell<bool>,
+}
+
+impl HeldImage {
+    /// Refuses the image where another program has it open as QEMU's programs do, now or when this was called
+    /// before, by fault 39. The system's list of locks is read, and no memory taken. Fault 34 where a call of
+    /// the system fails.
+    pub fn refuse_others<R: Files>(&self, rt: &R) -> Result<(), Fault>
+        ensures faults { IfErr result IsHoldFault }
+    {
+        if !self.has_come.get() {
+            self.has_come.set(self.is_barred(rt)?);
+        }
+        if self.has_come.get() {
+            return Err(Fault::InUse);
+        }
+        Ok(())
+    }
+
+    /// Whether another program has come to the image, as far as `refuse_others` has seen.
+    pub fn has_come(&self) -> bool {
+        self.has_come.get()
+    }
+
+    // Whether the image may not be changed, by the system's list.
+    fn is_barred<R: Files>(&self, rt: &R) -> Result<bool, Fault>
+        ensures faults { IfErr result IsHoldFault }
+    {
+        let Some(id) = &self.id else {
+            return Ok(false);
+        };
+        let found = is_barred(rt, id)?;
+        Ok(found.unwrap_or(self.unlisted == Unlisted::Refuse))
+    }
 }
 
 /// Holds the image of a path alone, before it is opened to be changed. Nothing of it is read or written.
 ///
-/// Fault 39 where somebody holds it already, or has it open as QEMU's programs do: to write to it, or to read
-/// it and let nobody write. Fault 34 where the file can't be opened for both, or a call of the system fails.
-/// It goes on where the file system has no such locks, and where the system has no list of them, or none that
-/// may be read. Who opens the image later is kept away only where they make this call too.
+/// Fault 39 where somebody holds it already, or has it open as QEMU's programs do: to write to it, or to
+/// read it and let nobody write. Also, unless that is allowed, where the system's list of locks can't be
+/// read, or doesn't have the lock by which the image is held here. Fault 34 where the file can't be opened
+/// for both, or a call of the system fails. It goes on where the file system has no such locks. Who opens
+/// the image later is kept away only where they make this call too: `HeldImage::refuse_others` sees them.
 pub fn hold_alone<R: Files<File = File> + AllocGlobal>(
     rt: &R,
     path: &str,
+    unlisted: Unlisted,
 ) -> Result<HeldImage, Fault>
     ensures faults { IfErr result IsHoldFault }
 {
     let Ok(file) = OpenOptions::new().read(true).write(true).open(rt, path) else {
         return Err(Fault::Storage);
     };
-    match file.try_lock() {
-        Ok(()) => refuse_barred(rt, &file)?,
+    let id = match file.try_lock() {
+        Ok(()) => listed_file(rt, &file, unlisted)?,
         Err(TryLockError::WouldBlock) => return Err(Fault::InUse),
-        Err(TryLockError::Error(error)) => refuse_failed(&error)?,
-    }
-    Ok(HeldImage { file })
+        Err(TryLockError::Error(error)) => {
+            refuse_failed(&error)?;
+            None
+        }
+    };
+    let has_come = Cell::new(false);
+    let held = HeldImage {
+        file,
+        id,
+        unlisted,
+        has_come,
+    };
+    held.refuse_others(rt)?;
+    Ok(held)
 }
 
 // Goes on only where an error of the system says that the file can't be locked: EINVAL, ENOLCK, ENOSYS or
@@ -52,51 +111,21 @@ fn refuse_failed(error: &io::Error) -> Result<(), Fault>
     }
 }
 
-// Refuses a file whose lock is held here where somebody has locked bytes that bar writing.
-fn refuse_barred<R: Files + AllocGlobal>(rt: &R, file: &File) -> Result<(), Fault>
+// A file whose lock is held here, as the system's list of locks names it. Where that doesn't have this
+// lock it has no other one of the file either.
+fn listed_file<R: Files + AllocGlobal>(
+    rt: &R,
+    file: &File,
+    unlisted: Unlisted,
+) -> Result<Option<FileId>, Fault>
     ensures faults { IfErr result IsHoldFault }
 {
-    let path = format!(in rt.alloc(); "/proc/self/fdinfo/{}", file.as_raw_fd())?;
-    let own_locks = text_of(rt, path.as_str())?;
-    let Some(id) = locked_file(own_locks.as_str()) else {
-        return Ok(());
-    };
-    let locks = listed_locks(rt)?;
-    if is_barred(locks.as_str(), &id) {
+    let own_locks = own_locks(rt, file.as_raw_fd())?;
+    let id = own_locks.and_then(|locks| locked_file(locks.as_str()));
+    if id.is_none() && unlisted == Unlisted::Refuse {
         return Err(Fault::InUse);
     }
-    Ok(())
-}
-
-/// The system's list of locks, a line each, as `FileLock::parse` reads them. It is empty where the system has
-/// none, or none that may be read. Fault 34 where a call of the system fails.
-pub fn listed_locks<R: Files + AllocGlobal>(rt: &R) -> Result<String, Fault>
-    ensures faults { IfErr result IsHoldFault }
-{
-    text_of(rt, "/proc/locks")
-}
-
-// What a file of the system says, or no text where there is none, or none that may be read.
-fn text_of<R: Files + AllocGlobal>(rt: &R, path: &str) -> Result<String, Fault>
-    ensures faults { IfErr result IsHoldFault }
-{
-    let read = match File::open(rt, path) {
-        Ok(file) => read_all(rt.alloc(), file),
-        Err(error) => Err(error),
-    };
-    match read {
-        Ok(text) => Ok(text),
-        Err(error) => match error.kind() {
-            ErrorKind::NotFound | ErrorKind::PermissionDenied => Ok(String::new(rt.alloc())),
-            ErrorKind::OutOfMemory => Err(Fault::NoMemory),
-            _ => Err(Fault::Storage),
-        },
-    }
-}
-
-// The text of a file. It is asked for in more than a page at once, since a list can change between two reads.
-fn read_all<F: Read + Drop>(alloc: Global, file: F) -> io::Result<String> {
-    io::read_to_string(alloc, BufReader::new(alloc, file)?)
+    Ok(id)
 }
 
 // The file of the first lock that is listed for a descriptor.
@@ -105,12 +134,4 @@ fn locked_file(descriptor: &str) -> Option<FileId> {
         .lines()
         .find_map(|line| line.strip_prefix("lock:"))?;
     Some(FileLock::parse(line)?.file)
-}
-
-// Whether one of all locks bars writing to a file.
-fn is_barred(locks: &str, file: &FileId) -> bool {
-    locks
-        .lines()
-        .filter_map(FileLock::parse)
-        .any(|lock| lock.bars_writing(file))
 }

@@ -1,10 +1,6 @@
 //! Files whose reads are watched.
 
-ghost use Rattle.qcow2_base.specs.Storage.ImageFile.{unknown_content};
-ghost use Rattle.qcow2_base.specs.Storage.ImageFiles.{ClosesImage, unknown_file};
-
 use super::progress::Progress;
-use qcow2_base::{Fault, FileStorage, ImageFiles, regular_len};
 use std::alloc::{Alloc, Allocator};
 use std::fs::{Metadata, OpenFile, OpenOptions};
 use std::io;
@@ -137,31 +133,5 @@ impl<'a, R: Files, C: Clock, E: Write + Copy> Files for WatchedFiles<'a, R, C, E
 
     fn remove_dir_all<B: Allocator>(&self, alloc: B, path: &str) -> io::Result<()> {
         self.files.remove_dir_all(alloc, path)
-    }
-}
-
-impl<'a, R: Files, C: Clock, E: Write + Copy> ImageFiles for WatchedFiles<'a, R, C, E> {
-    type Image = WatchedFile<'a, R::File, C, E>;
-
-    ghost file_at = { λ _ _. unknown_file };
-
-    fn open_image(
-        &mut self,
-        path: &str,
-        writable: bool,
-    ) -> Result<FileStorage<Self::Image>, Fault> {
-        FileStorage::open(self, path, writable)
-    }
-
-    fn close_image(&mut self, path: &str, image: FileStorage<Self::Image>)
-        ensures { ClosesImage (λ _. unknown_content) image.entry path.now
-            (λ _. unknown_file) (λ _. unknown_file) }
-    {
-        let _ = path;
-        drop(image);
-    }
-
-    fn image_len(&mut self, path: &str) -> Result<Option<u64>, Fault> {
-        regular_len(self, path)
     }
 }

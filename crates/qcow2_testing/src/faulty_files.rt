@@ -5,7 +5,7 @@ ghost use Rattle.qcow2_base.specs.Storage.ImageFile.{unknown_content};
 ghost use Rattle.qcow2_base.specs.Storage.ImageFiles.{ClosesImage, unknown_file};
 
 use crate::failing::take_turn;
-use qcow2_base::{Fault, FileStorage, ImageFiles, regular_len};
+use qcow2_base::{Fault, FileStorage, ImageFiles, file_len};
 use std::alloc::{Alloc, Allocator};
 use std::cell::Cell;
 use std::fs::{Metadata, OpenFile, OpenOptions};
@@ -249,6 +249,6 @@ impl<R: Files> ImageFiles for FaultyFiles<'_, R> {
     }
 
     fn image_len(&mut self, path: &str) -> Result<Option<u64>, Fault> {
-        regular_len(self, path)
+        file_len(self, path)
     }
 }

@@ -2,19 +2,23 @@
 #![tactic(auto)]
 
 use qcow2_base::Fault;
-use qcow2_locks::{HeldImage, hold_alone};
+use qcow2_locks::{GuardedFiles, HeldImage, Unlisted, hold_alone};
 use qcow2_progress::{Progress, WatchedFiles, WatchedOutput, WatchedTable, l2_tables};
 use qcow2_session::Command;
+use std::env::VarError;
 use std::fs::File;
 use std::io::{BufWriter, ErrorKind, IsTerminal};
 use std::os::unix::fs::FileTypeExt;
 use std::process::ExitCode;
 use std::rt::Files;
-use std::{fs, io};
+use std::{env, fs, io};
 
 // How many bytes are kept of what is printed before the system is asked to take them. A long list is
 // printed by as few calls as a pipe allows.
 const OUTPUT_BUFFER: usize = 65536;
+
+// The variable that says `allow` where an image is to be changed of which no list of locks says anything.
+const NO_LOCK_LIST: &str = "QMETA_NO_LOCK_LIST";
 
 // What words ask for, of an image.
 #[derive(Drop)]
@@ -38,15 +42,22 @@ fn run(rt: &HostRuntime) -> Result<u8, Fault> {
     };
     let words = words_of(rt)?;
     let asked = asked_by(rt, words.as_slice())?;
-    let _held = hold_image(rt, &asked)?;
+    let held = hold_image(rt, &asked)?;
     let tables = watched_tables(rt, &asked);
-    run_watched(rt, words.as_slice(), tables.as_slice())
+    run_watched(rt, words.as_slice(), tables.as_slice(), held.as_ref())
 }
 
-// Runs words, and says at a terminal how far it is with these tables of the image.
-fn run_watched(rt: &HostRuntime, words: &[String], tables: &[WatchedTable]) -> Result<u8, Fault> {
+// Runs words, and says at a terminal how far it is with these tables of the image. One that is held is
+// written to only while no other program has come to it.
+fn run_watched(
+    rt: &HostRuntime,
+    words: &[String],
+    tables: &[WatchedTable],
+    held: Option<&HeldImage>,
+) -> Result<u8, Fault> {
     let progress = Progress::new(rt.alloc(), rt, rt.stderr(), tables);
-    let mut files = WatchedFiles::new(rt, &progress);
+    let watched = WatchedFiles::new(rt, &progress);
+    let mut files = GuardedFiles::new(&watched, rt, held);
     let out = WatchedOutput::new(rt.stdout(), &progress, rt.stdout().is_terminal());
     let mut err = WatchedOutput::new(rt.stderr(), &progress, true);
     let Ok(mut out) = BufWriter::with_capacity(rt.alloc(), OUTPUT_BUFFER, out) else {
@@ -70,7 +81,7 @@ fn null_file<R: Files>(rt: &R) -> io::Result<R::File> {
 
 // The words after the program's name, or none where one of them isn't text.
 fn words_of(rt: &HostRuntime) -> Result<Vec<String>, Fault> {
-    match std::env::args(rt) {
+    match env::args(rt) {
         Ok(arguments) => Ok(arguments.skip(1).collect(rt.alloc())?),
         Err(error) if error.kind() == ErrorKind::OutOfMemory => Err(Fault::NoMemory),
         Err(_) => Ok(Vec::new(rt.alloc())),
@@ -93,8 +104,19 @@ fn asked_by<'a>(rt: &HostRuntime, words: &'a [String]) -> Result<Option<Asked<'a
 // Holds the image of a command that changes it.
 fn hold_image(rt: &HostRuntime, asked: &Option<Asked<'_>>) -> Result<Option<HeldImage>, Fault> {
     match asked {
-        Some(asked) if asked.command.changes_image() => Ok(Some(hold_alone(rt, asked.path)?)),
+        Some(asked) if asked.command.changes_image() => {
+            Ok(Some(hold_alone(rt, asked.path, unlisted(rt)?)?))
+        }
         _ => Ok(None),
+    }
+}
+
+// What the environment says of an image of which no list of locks says anything.
+fn unlisted(rt: &HostRuntime) -> Result<Unlisted, Fault> {
+    match env::var(rt, NO_LOCK_LIST) {
+        Ok(word) if word.as_str() == "allow" => Ok(Unlisted::Allow),
+        Err(VarError::OutOfMemory) => Err(Fault::NoMemory),
+        _ => Ok(Unlisted::Refuse),
     }
 }
 
