@@ -1,5 +1,6 @@
 mod GrowthExamples
 mod OneEntryExamples
+pub mod BitmapCountLemmas
 pub mod BlockBytesLemmas
 pub mod ChainLemmas
 pub mod ClearedLemmas

@@ -1,4 +1,5 @@
 -- What does the header of an image say, and which header does a new image have?
+pub mod BitmapCount
 pub mod Chain
 pub mod Extensions
 pub mod Features

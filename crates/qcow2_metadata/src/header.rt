@@ -5,6 +5,7 @@ ghost use Rattle.qcow2_base.specs.Types.{IsClusterBits, IsRefblockBits};
 ghost use Rattle.qcow2_metadata.specs.Header.{new_header};
 
 mod backing_filename;
+mod bitmap_count;
 mod bytes;
 mod extensions;
 mod feature_names;
@@ -17,6 +18,7 @@ mod text;
 mod update;
 mod write;
 
+use bitmap_count::{BITMAPS, first_bitmap_count};
 use extensions::has_unknown;
 pub use extensions::{HeaderExtension, HeaderExtensionType};
 use feature_names::known_names;
@@ -31,9 +33,7 @@ use qcow2_base::{
 use std::alloc::Global;
 use std::marker::Model;
 
-// The types of extensions that say where bitmaps and an encryption header lie.
-const BITMAPS: u32 = 0x23852875;
-
+// The type of the extension that says where an encryption header lies.
 const ENCRYPTION: u32 = 0x0537be77;
 
 // The kind of encryption that is called LUKS. It keeps its keys in clusters, and later kinds may do so too.
@@ -77,6 +77,7 @@ impl Model for Header {
 impl Header {
     ghost use Rattle.std.specs.Prelude.{◌-◌, ◌*◌, ◌<◌};
     ghost use Rattle.qcow2_metadata.specs.Header.{IsValidHeader, first_by, new_header, uncounted_part, uses_external_data};
+    ghost use Rattle.qcow2_metadata.specs.Header.BitmapCount.{consistent_bitmaps};
     ghost use Rattle.qcow2_metadata.specs.Header.Extensions.{feature_name_in, name_in};
     ghost use Rattle.qcow2_metadata.specs.declared.header.extensions.HeaderExtensionType.TheVariants as kind;
 
@@ -308,6 +309,18 @@ impl Header {
         }
         let has_keys = LUKS <= self.v2.crypt_method || has_unknown(&self.extensions, ENCRYPTION);
         has_keys.then_some(UncountedPart::Encryption)
+    }
+
+    /// How many persistent bitmaps the image has that agree with its disk: the number in the bitmaps
+    /// extension, where the autoclear bit says that they do. A change of the disk clears the bit, and they
+    /// are stale then.
+    pub fn consistent_bitmaps(&self) -> Option<u32>
+        ensures { result ≡ consistent_bitmaps self.now }
+    {
+        if self.base.autoclear_features & 1 == 0 {
+            return None;
+        }
+        first_bitmap_count(&self.extensions)
     }
 
     /// The version of the format, 2 or 3.
