@@ -49,7 +49,7 @@ abbrev pub AreUnshared : ImageTables → Image → Type 0
 AreUnshared tables image = (c : ℕ) → c < max_file_length → is_shared (image_uses tables image) c ≡ false
 
 -- so it is where nothing is found
-right-unshared : (tables : ImageTables) (image : Image) → AreRight tables image 0 max_file_length → AreUnshared tables image
+pub right-unshared : (tables : ImageTables) (image : Image) → AreRight tables image 0 max_file_length → AreUnshared tables image
 right-unshared tables image right = λ c below. grind (arith, nat_tests, right c (omega arith) below)
 
 -- then a cluster has one use at most that is of its header or of a block, and none beside an L2 table's
@@ -83,11 +83,6 @@ block-unshared tables image i block unshared placed names = omega (
   once-used tables.header.v2.cluster_bits tables.reftable i block names,
   fixed-once tables image block.0 unshared (block-below tables i block placed names),
 )
-
-pub block-apart : (tables : ImageTables) (image : Image) (i : ℕ) (block : HostCluster) → AreRight tables image 0 max_file_length
-    → blocks_fault tables.header tables.reftable ≡ None → (refblocks_of tables).place i ≡ Some block
-    → uses_of_kind Fixed (header_uses tables.header) block.0 ≡ 0
-block-apart tables image i block right = block-unshared tables image i block (right-unshared tables image right)
 
 -- nor is one an L2 table's
 pub table-unshared : (tables : ImageTables) (image : Image) (i : ℕ) (table : HostCluster) → AreUnshared tables image

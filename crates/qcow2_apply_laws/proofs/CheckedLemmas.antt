@@ -48,17 +48,24 @@ use Rattle.qcow2_apply.specs.declared.plan.Plan.{Plan}
 pub unshared : (tables : ImageTables) (image : Image) → HasNoErrors tables image → AreUnshared tables image
 unshared tables image none = λ c below. (no-error-at tables image none c below).1
 
--- so its tables and blocks are apart, if no two L1 entries name one table
-pub done-apart : (header : HeaderRecord) (edits : List GuestEdit) (plan : Plan) (old new : Image) → IsValidHeader header → IsPlanFor header edits plan
+-- where no cluster of an image has, its tables and blocks are apart, if no two L1 entries name one table
+pub done-unshared : (header : HeaderRecord) (edits : List GuestEdit) (plan : Plan) (old new : Image) → IsValidHeader header → IsPlanFor header edits plan
     → IsPlanOf header edits old plan → FollowsPlan header edits plan (Ok tt) old new → ArePlacesApart (l2_tables_of (plan_tables header plan))
-    → HasNoErrors (plan_tables header plan) old → AreDone header edits plan old new
-done-apart header edits plan old new valid for of follows apart none = record {
+    → AreUnshared (plan_tables header plan) old → AreDone header edits plan old new
+done-unshared header edits plan old new valid for of follows places apart = record {
   valid = valid;
   for = for;
   of = of;
   follows = follows;
-  apart = apart-unshared (plan_tables header plan) old (unshared (plan_tables header plan) old none) for.blocks apart;
+  apart = apart-unshared (plan_tables header plan) old apart for.blocks places;
 }
+
+-- so they are without errors
+pub done-apart : (header : HeaderRecord) (edits : List GuestEdit) (plan : Plan) (old new : Image) → IsValidHeader header → IsPlanFor header edits plan
+    → IsPlanOf header edits old plan → FollowsPlan header edits plan (Ok tt) old new → ArePlacesApart (l2_tables_of (plan_tables header plan))
+    → HasNoErrors (plan_tables header plan) old → AreDone header edits plan old new
+done-apart header edits plan old new valid for of follows places none =
+    done-unshared header edits plan old new valid for of follows places (unshared (plan_tables header plan) old none)
 
 -- the header uses the cluster of a byte, and not as the first cluster alone
 record IsFixed (header : HeaderRecord) (o : ℕ) : Type 0 where
@@ -148,7 +155,7 @@ same-load layout cluster old new same =
     ap (λ numbers. unless_refused (place_fault layout cluster) (unless_refused (layout.fault_of_numbers numbers) (Ok numbers))) same
 
 -- so edits leave both tables
-l1-stays : (header : HeaderRecord) (edits : List GuestEdit) (plan : Plan) (old new : Image) → AreDone header edits plan old new
+pub l1-stays : (header : HeaderRecord) (edits : List GuestEdit) (plan : Plan) (old new : Image) → AreDone header edits plan old new
     → AreUnshared (plan_tables header plan) old → loaded_l1_table header new ≡ loaded_l1_table header old
 l1-stays header edits plan old new done apart = same-load (l1_layout header) (l1_cluster header) old new
     (table_numbers_same new old _ _ header.v2.l1_size (λ k below. fixed-stays header edits plan old new _ done apart (l1-fixed header k below)))

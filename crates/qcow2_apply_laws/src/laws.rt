@@ -71,6 +71,13 @@ pub fn tables_and_blocks_are_apart_where_nothing_is_found()
         AreAllApart tables }
 {}
 
+/// They are so where an image has no errors: leaked clusters and late flags don't matter.
+pub fn tables_and_blocks_are_apart_where_there_are_no_errors()
+    ensures { (tables : ImageTables) (image : Image) → HasNoErrors tables image →
+        blocks_fault tables.header tables.reftable ≡ None → ArePlacesApart (l2_tables_of tables) →
+        AreAllApart tables }
+{}
+
 /// Where edits of a disk were made in an image that begins with the header, and whose tables and blocks are
 /// apart, the image begins then with the header that they leave, which is the same without autoclear
 /// features. This asks that no byte of the backing file's name is one of those that are cleared.
