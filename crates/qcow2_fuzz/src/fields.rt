@@ -76,6 +76,12 @@ impl Fields {
         self.cluster_size() / 8
     }
 
+    /// Whether the L1 table has fewer entries than the disk needs.
+    pub(crate) fn is_l1_short(&self) -> bool {
+        let guest_clusters = self.size.div_ceil(self.cluster_size().max(1));
+        self.l1_entries < guest_clusters.div_ceil(self.table_entries().max(1))
+    }
+
     /// How many counters a refcount block has.
     pub(crate) fn block_entries(&self) -> u64 {
         self.cluster_size().saturating_mul(8) >> self.refcount_order.min(6)

@@ -20,6 +20,7 @@ qmeta prints what a qcow2 disk image says about itself, and edits it.
   count IMAGE CLUSTER STEP..      change counters of one refcount block
   l2 IMAGE CLUSTER_BITS CLUSTER   list one L2 table, whatever the header says
   help [COMMAND]                  this text, or what a command prints, with its statuses and faults
+  COMMAND --help                  the same as help COMMAND, except after info, list, at, edit, count and l2
   explain [N]                     what fault N means and what helps, or all faults
   explain N IMAGE                 the same, and where in the image it is
   version                         the version of this program
@@ -38,7 +39,8 @@ const INFO: &str = "\
 qmeta info IMAGE
 
 Prints what the header says, in ten lines: version, cluster-bits, size, refcount-order, l1, refcount-table,
-backing, format, external, data-file. A cluster has 2^cluster-bits bytes. Only reads.
+backing, format, external, data-file. A cluster has 2^cluster-bits bytes. Only reads. An IMAGE may have any
+name, also `--help`.
 
 Status 0: printed. 1: a fault. Faults: 34 where the file can't be opened or read, 1 to 17 of the header.
 
@@ -50,7 +52,7 @@ qmeta list IMAGE
 
 Prints a line for each guest cluster that isn't left to the backing file: its guest offset, and one of
 `data OFFSET`, `zero`, `zero OFFSET`, `compressed OFFSET LENGTH`. ` copied` says that the cluster has one
-reference. Only reads.
+reference. Only reads. An IMAGE may have any name, also `--help`.
 
 Status 0: printed. 1: a fault; lines before it stay. Faults: those of `info`, and 18 to 21 of the L1 table or
 of an L2 table.
@@ -75,7 +77,8 @@ const AT: &str = "\
 qmeta at IMAGE OFFSET
 
 Prints what the guest cluster with the guest offset OFFSET reads as: what `list` prints after an offset, or
-`backing OFFSET`. OFFSET is decimal; a shell turns hexadecimal into it by $((0x20100000)). Only reads.
+`backing OFFSET`. OFFSET is decimal; a shell turns hexadecimal into it by $((0x20100000)). Only reads. An
+IMAGE may have any name, also `--help`.
 
 Status 0: printed. 1: a fault. Faults: those of `info`, and 18 to 21 of the L1 table or of the L2 table.
 
@@ -128,15 +131,16 @@ qmeta check IMAGE json
 qmeta check IMAGE repair
 
 Compares the counter of each host cluster with its uses, and each copied flag with the counter. Prints
-`leaked`, `missing` and `shared` with FIRST COUNT COUNTER USES, and `false` and `late` flags. The last line
-is `consistent`, or how many there are of each. With `json` it prints numbers, as `qemu-img check
---output=json` does. With `repair` it makes counters and flags right first; without it only reads.
+`leaked`, `missing` and `shared` with FIRST COUNT COUNTER USES, and `false` and `late` flags. `short-l1
+ENTRIES NEEDED` says that the L1 table is too short for the disk. The last line is `consistent`, or how many
+there are of each. With `json` it prints numbers, as `qemu-img check --output=json` does. With `repair` it
+makes counters and flags right first; without it only reads.
 
 Status 0: consistent. 1: a fault. 3: only leaks and late flags, which harm nobody if the file is whole.
 4: anything worse.
 Faults: those of `info`; 37 with snapshots, bitmaps or LUKS encryption; 18 to 21 of the tables. With
-`repair` also 39 where somebody else has the image open, 21 where a table is past the end of the image's
-file, and 38, 30 or 24 where it can't be repaired.
+`repair` also 39 where somebody else has the image open, 41 where the L1 table is too short, 21 where a
+table is past the end of the image's file, and 38, 30 or 24 where it can't be repaired.
 
   $ qmeta check disk.qcow2
 ";
@@ -147,7 +151,8 @@ qmeta apply IMAGE plan EDIT..
 
 Changes what ranges of the disk read as, with all counters. A crash leaves leaks at most, where tables and
 blocks are apart, as `check` shows. With `plan` it prints the same and writes nothing. Without it, autoclear
-features are cleared, so persistent bitmaps are lost. An EDIT is one of
+features are cleared, so persistent bitmaps are lost, and their clusters leak: `qemu-img check -r leaks` frees
+them. `plan` says how many bitmaps there are by a last line, `stale-bitmaps N`. An EDIT is one of
 
   discard:OFFSET:LENGTH    the range is left to the backing file; discard:OFFSET is one cluster
   zero:OFFSET:LENGTH       it reads as zeros
@@ -157,8 +162,8 @@ features are cleared, so persistent bitmaps are lost. An EDIT is one of
 OFFSET and LENGTH are multiples of the cluster size, LENGTH not 0, decimal or with 0x. It prints `freed FIRST
 COUNT` for clusters that are free now, `kept CLUSTER COUNTER` for those that others use, `gained CLUSTER`.
 
-Status 0: made. 1: a fault. Faults: those of `info`; 39, 36, 32, 27, 23, 40, 30, and 18 to 21 of the tables.
-All but 34 come before a byte changes. `qmeta explain N` says more.
+Status 0: made. 1: a fault. Faults: those of `info`; 39, 41, 36, 32, 27, 23, 40, 30, and 18 to 21 of the
+tables. All but 34 and 39 come before a byte changes. `qmeta explain N` says more.
 
   $ qmeta apply disk.qcow2 plan discard:0x20100000
 ";
@@ -169,10 +174,11 @@ qmeta edit IMAGE L1INDEX EDIT..
 Changes entries of the L2 table of an L1 entry, and no counter: `apply` is safer. An EDIT is one of
 map:INDEX:CLUSTER, zero:INDEX, keep:INDEX, discard:INDEX. It prints `freed FIRST COUNT` and `gained
 CLUSTER`, whose counters are yours to change by `count`. Autoclear features are cleared, so persistent bitmaps
-are lost, and a raw external data file is no longer marked as raw. Copy the image first.
+are lost, and a raw external data file is no longer marked as raw. Copy the image first. An IMAGE may have any
+name, also `--help`.
 
-Status 0: all edits are made, and on the device. 1: a fault; none is made, but that 34 may leave a part, or
-all. Faults: those of `info`; 39, 24, 23, 32, and 18 to 21 of the tables.
+Status 0: all edits are made, and on the device. 1: a fault; none is made, but that 34 and 39 may leave a
+part, or all. Faults: those of `info`; 39, 24, 23, 32, and 18 to 21 of the tables.
 
   $ qmeta edit disk.qcow2 1 discard:16
 ";
@@ -183,10 +189,11 @@ qmeta count IMAGE CLUSTER STEP..
 Changes counters of the refcount block that begins with a host cluster. A STEP is inc:INDEX or dec:INDEX. It
 prints `ok` and the counter before each step, or `refused` where it would pass 0 or the greatest number.
 CLUSTER is your word: whatever lies there is changed. Autoclear features are cleared, so persistent bitmaps
-are lost, and a raw external data file is no longer marked as raw. Copy the image first.
+are lost, and a raw external data file is no longer marked as raw. Copy the image first. An IMAGE may have any
+name, also `--help`.
 
 Status 0: the steps are made, but for those refused, and on the device. 1: a fault; none is made, but that 34
-may leave a part, or all. Faults: those of `info`; 39, 24, 21, 33.
+and 39 may leave a part, or all. Faults: those of `info`; 39, 24, 21, 33.
 
   $ qmeta count disk.qcow2 2 dec:9
 ";
@@ -195,7 +202,7 @@ const L2: &str = "\
 qmeta l2 IMAGE CLUSTER_BITS CLUSTER
 
 Lists the L2 table that begins with a host cluster, and doesn't look at the image's header. A line has the
-index of an entry and what `list` prints. Only reads.
+index of an entry and what `list` prints. Only reads. An IMAGE may have any name, also `--help`.
 
 Status 0: printed. 1: a fault. Faults: 34 where the file can't be opened or read, 18, 19 and 21 of the table.
 
@@ -205,6 +212,7 @@ Status 0: printed. 1: a fault. Faults: 34 where the file can't be opened or read
 const HELP: &str = "\
 qmeta help
 qmeta help COMMAND
+qmeta COMMAND --help
 qmeta explain
 qmeta explain N
 qmeta explain N IMAGE
@@ -215,6 +223,9 @@ or of fault N what must hold, what mostly breaks it, and what helps. With IMAGE 
 in the image that is: the field of the header, the extension or the entry, each with its place and its value,
 or the system's word on the file. Only reads. `--help`, `-h` and `--version` do the same as `help` and
 `version`. These open no image.
+
+Alone after a COMMAND, `--help` or `-h` prints its help. After `info`, `list`, `at`, `edit`, `count` and `l2`
+it names an image instead, as `./--help` does after any.
 
 Status 0: printed, also where the image doesn't have the fault. 1: fault 34, where the output failed, or with
 IMAGE a read; with IMAGE also 35.

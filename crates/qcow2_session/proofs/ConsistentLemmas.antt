@@ -7,15 +7,17 @@ use Rattle.qcow2_base.specs.Storage.{Image}
 use Rattle.qcow2_check.proofs.FindingsListLemmas.{none-just-where-right}
 use Rattle.qcow2_check.specs.Findings.{AreRight, finding_at, findings_from, image_findings, is_wrong}
 use Rattle.qcow2_check.specs.Flags.{image_flags}
+use Rattle.qcow2_check.specs.L1Length.{is_l1_short}
 use Rattle.qcow2_check.specs.Uses.{ImageTables}
 use Rattle.qcow2_check.specs.declared.findings.Finding.{Finding}
 use Rattle.qcow2_check.specs.declared.flags.WrongFlag.{WrongFlag}
+use Rattle.qcow2_metadata.specs.Header.{HeaderRecord}
 use Rattle.qcow2_session.specs.Commands.Check.{report_on}
 use Rattle.qcow2_session.specs.Commands.Check.Runs.{runs_of, joined_before, single}
-use Rattle.qcow2_session.specs.Commands.Check.Totals.{clusters_of, is_leaked, is_missing, has_exclusive_uses, run_totals, verdict_of, with_flags}
+use Rattle.qcow2_session.specs.Commands.Check.Totals.{clusters_of, is_leaked, is_missing, has_exclusive_uses, run_totals, totals_on, verdict_in, verdict_of, with_flags}
 use Rattle.qcow2_session.specs.declared.commands.check.runs.FindingRun.{FindingRun}
 use Rattle.qcow2_session.specs.declared.commands.check.totals.Totals.{Totals}
-use Rattle.qcow2_session.specs.declared.commands.verdict.Verdict.TheVariants.{Fine}
+use Rattle.qcow2_session.specs.declared.commands.verdict.Verdict.TheVariants.{Fine, Harmful}
 
 -- the first of the findings is of a cluster that something is wrong with
 first-wrong : (tables : ImageTables) (image : Image) (from count : ℕ) (found : Finding) (rest : List Finding)
@@ -42,6 +44,18 @@ none-of-kind is_kind finding (run ∷ runs) none = grind (
   sum_by-cons (clusters_of is_kind) (single finding) (run ∷ runs),
 )
 
+-- where the verdict on an image is that all is fine, its L1 table is long enough, and so is what was found
+pub fine-in : (header : HeaderRecord) (totals : Totals) → verdict_in header totals ≡ Fine
+    → (is_l1_short header ≡ false) × (verdict_of totals ≡ Fine)
+fine-in header totals fine = by_length (is_l1_short header) refl
+  where
+    by_length : (short : Bool) → is_l1_short header ≡ short → (is_l1_short header ≡ false) × (verdict_of totals ≡ Fine)
+    by_length true short = absurd (never (rw short at fine))
+      where
+        never : Harmful ≡ Fine → ⊥
+        never is = grind (arith, is)
+    by_length false long = (long, rw long at fine)
+
 -- where the verdict is that all is fine, nothing is counted
 fine-zero : (totals : Totals) → verdict_of totals ≡ Fine → (totals.leaked ≡ 0) × (totals.missing ≡ 0) × (totals.shared ≡ 0)
 fine-zero totals fine = grind (arith, nat_tests, fine)
@@ -66,4 +80,5 @@ fine-none tables image flags (finding ∷ findings) are fine =
 -- and nothing is wrong with any cluster
 pub right-where-fine : (tables : ImageTables) (image : Image) → (report_on tables image).verdict ≡ Fine → AreRight tables image 0 max_file_length
 right-where-fine tables image fine =
-    (none-just-where-right tables image).0 (fine-none tables image (image_flags tables image) (image_findings tables image) refl fine)
+    let found = (fine-in tables.header (totals_on tables image) fine).1 in
+    (none-just-where-right tables image).0 (fine-none tables image (image_flags tables image) (image_findings tables image) refl found)

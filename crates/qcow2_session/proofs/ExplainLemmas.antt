@@ -3,9 +3,9 @@ use Rattle.std.proofs.lemmas.Slice.Eq.{bytes_eq-Decides}
 use Rattle.std.specs.Io.KnownBytes.{Keeps}
 use Rattle.qcow2_base.specs.declared.fault.Fault.{Fault}
 use Rattle.qcow2_session.proofs.HelpLemmas.{asked_status}
-use Rattle.qcow2_session.specs.Commands.{command_by_name, command_of}
+use Rattle.qcow2_session.specs.Commands.{command_by_name, command_of, named_command}
 use Rattle.qcow2_session.specs.Commands.Explain.{PrintsExplained, explained_text, located_text}
-use Rattle.qcow2_session.specs.Commands.Help.{PrintsAsked, asked_text, explain_text}
+use Rattle.qcow2_session.specs.Commands.Help.{PrintsAsked, ask_for_help, asked_text}
 use Rattle.qcow2_session.specs.Commands.Printing.{AppendsPart}
 use Rattle.qcow2_session.specs.Commands.Report.{fault_line}
 
@@ -13,13 +13,17 @@ use Rattle.qcow2_session.specs.Commands.Report.{fault_line}
 pub explained_is_no_command : (words : List (List ℕ)) (text : List ℕ) → explained_text words ≡ Some text → command_of words ≡ None
 explained_is_no_command [] text asked = refl
 explained_is_no_command (name ∷ []) text asked = refl
-explained_is_no_command (name ∷ image ∷ arguments) text asked = by_name (bytes_eq name (codes "explain")) refl
+explained_is_no_command (name ∷ image ∷ arguments) text asked = by_help (ask_for_help name (image ∷ arguments)) refl
   where
-    by_name : (b : Bool) → bytes_eq name (codes "explain") ≡ b → command_by_name name image arguments ≡ None
-    by_name true same = subst (λ (n : List ℕ). command_by_name n image arguments ≡ None) (sym ((bytes_eq-Decides name (codes "explain")).0 same)) refl
+    by_name : (b : Bool) → bytes_eq name (codes "explain") ≡ b → named_command name image arguments ≡ None
+    by_name true same = subst (λ (n : List ℕ). named_command n image arguments ≡ None) (sym ((bytes_eq-Decides name (codes "explain")).0 same)) refl
     by_name false other = grind (arith, (rw other at asked))
 
-no_place : (arguments : List (List ℕ)) (text : List ℕ) → explain_text arguments ≡ Some text → located_text arguments ≡ None
+    by_help : (b : Bool) → ask_for_help name (image ∷ arguments) ≡ b → command_by_name name image arguments ≡ None
+    by_help true helps = rw helps refl
+    by_help false other = rw other (by_name (bytes_eq name (codes "explain")) refl)
+
+no_place : (arguments : List (List ℕ)) (text : List ℕ) → asked_text (codes "explain" ∷ arguments) ≡ Some text → located_text arguments ≡ None
 no_place [] text asked = refl
 no_place (fault ∷ []) text asked = refl
 no_place (fault ∷ image ∷ []) text asked = grind (arith, asked)

@@ -1,4 +1,4 @@
-use Rattle.std.proofs.Common.{◌≡◌, ◌≢◌, ℕ, Bool, true, false, ◌+◌, List, [], ◌∷◌, Ok, cond, refl, subst, sym, ◌∙◌, arith}
+use Rattle.std.proofs.Common.{◌≡◌, ◌≢◌, ℕ, Bool, true, false, ◌+◌, List, [], ◌∷◌, Ok, ap, cond, refl, subst, sym, ◌∙◌, arith}
 use Rattle.std.proofs.lemmas.Bool.Decides.{nat_tests}
 use Rattle.std.proofs.lemmas.List.Elements.{All-cons, All-head, All-nil, All-tail}
 use Rattle.std.proofs.lemmas.List.Sums.{sum_by-cons}
@@ -10,8 +10,9 @@ use Rattle.qcow2_metadata.specs.Header.Open.{without_autoclear}
 use Rattle.qcow2_metadata.specs.Table.L2Guards.{one_if}
 use Rattle.qcow2_check.specs.Findings.{checked_tables, image_findings}
 use Rattle.qcow2_check.specs.Flags.{image_flags}
+use Rattle.qcow2_check.specs.L1Length.{is_l1_short}
 use Rattle.qcow2_check.specs.Uses.{ImageTables}
-use Rattle.qcow2_apply_laws.proofs.CheckedLemmas.{finds-none}
+use Rattle.qcow2_apply_laws.proofs.CheckedLemmas.{checked-planned, finds-none}
 use Rattle.qcow2_apply_laws.proofs.HeaderLeftLemmas.{header-left-by-check}
 use Rattle.qcow2_apply.specs.Apply.{EditsDisk, FollowsPlan, LosesNoName, l2_tables_of}
 use Rattle.qcow2_apply_laws.specs.Errors.{HasNoErrors}
@@ -22,7 +23,7 @@ use Rattle.qcow2_guest_edits.specs.declared.guest_edits.GuestEdit.{GuestEdit}
 use Rattle.qcow2_apply.specs.declared.plan.Plan.{Plan}
 use Rattle.qcow2_session.proofs.TotalsLemmas.{totals-of-findings}
 use Rattle.qcow2_session.specs.Commands.Check.{FindsNoHarm, report_on}
-use Rattle.qcow2_session.specs.Commands.Check.Totals.{harms_nobody, has_exclusive_uses, is_missing, totals_on, verdict_of}
+use Rattle.qcow2_session.specs.Commands.Check.Totals.{harms_nobody, has_exclusive_uses, is_missing, totals_on, verdict_in, verdict_of}
 use Rattle.qcow2_session.specs.declared.commands.check.totals.Totals.{Totals}
 use Rattle.qcow2_session.specs.declared.commands.verdict.Verdict.TheVariants.{Harmful}
 
@@ -58,10 +59,19 @@ harmless-zero totals safe = by_test (harms_nobody totals) refl
 zero-harmless : (totals : Totals) → totals.missing ≡ 0 → totals.shared ≡ 0 → totals.false_flags ≡ 0 → verdict_of totals ≢ Harmful
 zero-harmless totals missing shared false_flags = λ harmful. grind (arith, nat_tests, missing, shared, false_flags, harmful)
 
+-- where the verdict on an image isn't `Harmful`, its L1 table is long enough, and what was found does no harm
+harmless-in : (header : HeaderRecord) (totals : Totals) → verdict_in header totals ≢ Harmful
+    → (is_l1_short header ≡ false) × (verdict_of totals ≢ Harmful)
+harmless-in header totals safe = by_length (is_l1_short header) refl
+  where
+    by_length : (short : Bool) → is_l1_short header ≡ short → (is_l1_short header ≡ false) × (verdict_of totals ≢ Harmful)
+    by_length true short = absurd (safe (rw short refl))
+    by_length false long = (long, rw long at safe)
+
 -- so an image has no errors where the verdict on it isn't `Harmful`
 pub no-errors-of-verdict : (tables : ImageTables) (image : Image) → (report_on tables image).verdict ≢ Harmful → HasNoErrors tables image
 no-errors-of-verdict tables image safe =
-    let zeros = harmless-zero (totals_on tables image) safe in
+    let zeros = harmless-zero (totals_on tables image) (harmless-in tables.header (totals_on tables image) safe).1 in
     let counted = totals-of-findings tables image in
     let findings = image_findings tables image in
     let enough = none-counted is_missing findings (sym counted.1 ∙ zeros.0) in
@@ -71,15 +81,20 @@ no-errors-of-verdict tables image safe =
       flags = none-counted (λ flag. flag.is_set) (image_flags tables image) (omega (arith, zeros.2));
     }
 
+-- and its L1 table is long enough
+pub long-of-verdict : (tables : ImageTables) (image : Image) → (report_on tables image).verdict ≢ Harmful → is_l1_short tables.header ≡ false
+long-of-verdict tables image safe = (harmless-in tables.header (totals_on tables image) safe).0
+
 -- and only there
-pub verdict-of-no-errors : (tables : ImageTables) (image : Image) → HasNoErrors tables image → (report_on tables image).verdict ≢ Harmful
-verdict-of-no-errors tables image none =
+pub verdict-of-no-errors : (tables : ImageTables) (image : Image) → HasNoErrors tables image → is_l1_short tables.header ≡ false
+    → (report_on tables image).verdict ≢ Harmful
+verdict-of-no-errors tables image none long =
     let counted = totals-of-findings tables image in
     let findings = image_findings tables image in
     let missing = counts-none is_missing findings (λ k d below. grind (arith, nat_tests, none.findings k d below)) in
     let shared = counts-none has_exclusive_uses findings (λ k d below. (none.findings k d below).1) in
     let flags = counts-none (λ flag. flag.is_set) (image_flags tables image) none.flags in
-    zero-harmless (totals_on tables image) (counted.1 ∙ missing) (counted.2 ∙ shared) (omega (arith, flags))
+    rw long (zero-harmless (totals_on tables image) (counted.1 ∙ missing) (counted.2 ∙ shared) (omega (arith, flags)))
 
 -- edits of a disk that were made by a plan leave no harm where there was none
 no-harm-by-plan : (header : HeaderRecord) (edits : List GuestEdit) (plan : Plan) (old new : Image) (tables : ImageTables) → IsValidHeader header
@@ -89,7 +104,9 @@ no-harm-by-plan header edits plan old new tables valid for of follows checked ap
     let before : (report_on tables old).verdict ≢ Harmful = rw checked at safe in
     let after = finds-none header edits plan old new tables valid for of follows checked apart (no-errors-of-verdict tables old before) in
     let left : ImageTables = record tables { header = without_autoclear header } in
-    rw after.0 (verdict-of-no-errors left new after.1)
+    let same : header ≡ tables.header = ap (λ (t : ImageTables). t.header) (checked-planned header edits plan old tables of checked) in
+    let long : is_l1_short left.header ≡ false = subst (λ h. is_l1_short h ≡ false) (sym same) (long-of-verdict tables old before) in
+    rw after.0 (verdict-of-no-errors left new after.1 long)
 
 -- and so do all that were made, with the header that they leave, which the image has then
 pub no-harm-left : (header left : HeaderRecord) (edits : List GuestEdit) (clusters : ChangedClusters) (old new : Image) (tables : ImageTables)

@@ -6,8 +6,8 @@ use Rattle.std.proofs.lemmas.List.FromFn.{get_or-range_with_len, length-range_wi
 use Rattle.qcow2_base.specs.declared.fault.Fault.{Fault}
 use Rattle.qcow2_help.specs.FaultTexts.{fault_text}
 use Rattle.qcow2_session.proofs.PrintingLemmas.{failed_at, printed-more, prints_no-more, then_prints}
-use Rattle.qcow2_session.specs.Commands.{command_by_name, command_of}
-use Rattle.qcow2_session.specs.Commands.Help.{PrintsAsked, asked_text, first_line_of, rule_of}
+use Rattle.qcow2_session.specs.Commands.{command_by_name, command_of, named_command}
+use Rattle.qcow2_session.specs.Commands.Help.{PrintsAsked, ask_for_help, asked_text, first_line_of, named_text, rule_of}
 use Rattle.qcow2_base.specs.declared.fault.Fault.TheVariants.{Storage}
 use Rattle.qcow2_session.proofs.OutputLemmas.{part_taken}
 use Rattle.qcow2_session.specs.Commands.Printing.{AppendsPart, PrintsText}
@@ -40,30 +40,30 @@ rules_cut {U = U} n i failed a b c below before cut =
 is_word : (name word : List ℕ) → bytes_eq name word ≡ true → name ≡ word
 is_word name word same = (bytes_eq-Decides name word).0 same
 
-module _ (name image : List ℕ) (arguments : List (List ℕ)) (text : List ℕ) (asked : asked_text (name ∷ image ∷ arguments) ≡ Some text) where
-  elsewhere : (word : List ℕ) → command_by_name word image arguments ≡ None → bytes_eq name word ≡ true → command_by_name name image arguments ≡ None
-  elsewhere word none same = subst (λ (n : List ℕ). command_by_name n image arguments ≡ None) (sym (is_word name word same)) none
+module _ (name image : List ℕ) (arguments : List (List ℕ)) (text : List ℕ) (asked : named_text name (image ∷ arguments) ≡ Some text) where
+  elsewhere : (word : List ℕ) → named_command word image arguments ≡ None → bytes_eq name word ≡ true → named_command name image arguments ≡ None
+  elsewhere word none same = subst (λ (n : List ℕ). named_command n image arguments ≡ None) (sym (is_word name word same)) none
 
-  no_command : command_by_name name image arguments ≡ None
+  no_command : named_command name image arguments ≡ None
   no_command = by_help (bytes_eq name (codes "help")) refl
     where
       by_version : (b c : Bool) → bytes_eq name (codes "version") ≡ b → bytes_eq name (codes "--version") ≡ c → bytes_eq name (codes "help") ≡ false → bytes_eq name (codes "--help") ≡ false
-          → bytes_eq name (codes "-h") ≡ false → bytes_eq name (codes "explain") ≡ false → command_by_name name image arguments ≡ None
+          → bytes_eq name (codes "-h") ≡ false → bytes_eq name (codes "explain") ≡ false → named_command name image arguments ≡ None
       by_version true c same _ _ _ _ _ = elsewhere (codes "version") refl same
       by_version false true _ same _ _ _ _ = elsewhere (codes "--version") refl same
       by_version false false e f a b c d = grind (arith, (rw (a, b, c, d, e, f) at asked))
 
       by_explain : (b : Bool) → bytes_eq name (codes "explain") ≡ b → bytes_eq name (codes "help") ≡ false → bytes_eq name (codes "--help") ≡ false → bytes_eq name (codes "-h") ≡ false
-          → command_by_name name image arguments ≡ None
+          → named_command name image arguments ≡ None
       by_explain true same _ _ _ = elsewhere (codes "explain") refl same
       by_explain false other a b c = by_version (bytes_eq name (codes "version")) (bytes_eq name (codes "--version")) refl refl a b c other
 
-      by_others : (b c : Bool) → bytes_eq name (codes "--help") ≡ b → bytes_eq name (codes "-h") ≡ c → bytes_eq name (codes "help") ≡ false → command_by_name name image arguments ≡ None
+      by_others : (b c : Bool) → bytes_eq name (codes "--help") ≡ b → bytes_eq name (codes "-h") ≡ c → bytes_eq name (codes "help") ≡ false → named_command name image arguments ≡ None
       by_others true c same _ _ = elsewhere (codes "--help") refl same
       by_others false true _ same _ = elsewhere (codes "-h") refl same
       by_others false false b c a = by_explain (bytes_eq name (codes "explain")) refl a b c
 
-      by_help : (b : Bool) → bytes_eq name (codes "help") ≡ b → command_by_name name image arguments ≡ None
+      by_help : (b : Bool) → bytes_eq name (codes "help") ≡ b → named_command name image arguments ≡ None
       by_help true same = elsewhere (codes "help") refl same
       by_help false other = by_others (bytes_eq name (codes "--help")) (bytes_eq name (codes "-h")) refl refl other
 
@@ -71,7 +71,11 @@ module _ (name image : List ℕ) (arguments : List (List ℕ)) (text : List ℕ)
 pub asked_is_no_command : (words : List (List ℕ)) (text : List ℕ) → asked_text words ≡ Some text → command_of words ≡ None
 asked_is_no_command [] text asked = refl
 asked_is_no_command (name ∷ []) text asked = refl
-asked_is_no_command (name ∷ image ∷ arguments) text asked = no_command name image arguments text asked
+asked_is_no_command (name ∷ image ∷ arguments) text asked = by_help (ask_for_help name (image ∷ arguments)) refl
+  where
+    by_help : (b : Bool) → ask_for_help name (image ∷ arguments) ≡ b → command_by_name name image arguments ≡ None
+    by_help true helps = rw helps refl
+    by_help false other = rw other (no_command name image arguments text (rw other at asked))
 
 kept-appends : (a b c : Option (List ℕ)) (text : List ℕ) → Appends a b text → Keeps b c → Appends a c text
 kept-appends None b c text got kept = tt

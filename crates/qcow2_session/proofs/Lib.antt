@@ -21,6 +21,7 @@ pub mod OutputLemmas
 pub mod PictureLemmas
 pub mod PrintingLemmas
 pub mod RefcountLemmas
+pub mod RepairedDiskLemmas
 pub mod ReportLemmas
 pub mod RunningLemmas
 pub mod RunningOnFilesLemmas

@@ -1,24 +1,32 @@
-use Rattle.std.proofs.Common.{◌≡◌, ◌≢◌, ◌≤◌, ◌⊎◌, ℕ, List, [], ◌∷◌, ◌-◌, drop, take, take_all, length, get_or, false, Option, None, Some, Result, Ok, Err, inl, inr, refl, subst, sym, arith, IfSome}
+use Rattle.std.proofs.Common.{◌≡◌, ◌≢◌, ◌≤◌, ◌⊎◌, ◌∙◌, ℕ, Bool, List, [], ◌∷◌, ◌-◌, drop, take, take_all, length, get_or, false, ap, Option, option_map, None, Some, Result, Ok, Err, inl, inr, refl, subst, sym, arith, IfSome}
 use Rattle.std.specs.Bool.{IsTrue}
 use Rattle.std.specs.Io.KnownBytes.{Keeps}
 use Rattle.std.specs.Result.{IfOk, IsErr, MatchResult}
-use Rattle.qcow2_base.specs.Storage.{OnlyReads, StorageState}
+use Rattle.qcow2_base.specs.Storage.{Image, OnlyReads, StorageState}
 use Rattle.qcow2_base.specs.Storage.File.{failures_of, file_of, file_state, state_over}
-use Rattle.qcow2_base.specs.Storage.ImageFile.{FileContent}
+use Rattle.qcow2_base.specs.Storage.ImageFile.{FileContent, OnFile}
 use Rattle.qcow2_base.specs.Storage.ImageFiles.{ChangesOne, ClosesImage, FailsFor, PathFile}
 use Rattle.qcow2_base.specs.declared.fault.Fault.{Fault}
-use Rattle.qcow2_base.specs.declared.fault.Fault.TheVariants.{NoMemory, Storage}
+use Rattle.qcow2_base.specs.declared.fault.Fault.TheVariants.{BadEdit, NoMemory, Storage}
 use Rattle.qcow2_base.specs.declared.storage.file.FileStorage.{FileStorage}
-use Rattle.qcow2_metadata.specs.Header.{HeaderRecord}
+use Rattle.qcow2_check.specs.L1Length.{short_l1_refusal}
+use Rattle.qcow2_metadata.specs.Header.{HeaderRecord, uses_external_data}
+use Rattle.qcow2_metadata.specs.Results.{Reads, unless_refused}
+use Rattle.qcow2_repair.proofs.RefusalsLemmas.{header-cause, refused-is}
+use Rattle.qcow2_repair.specs.Refusals.{header_refusal}
 use Rattle.qcow2_session.proofs.PrintingLemmas.{reads-calm, run_between}
 use Rattle.qcow2_session.specs.Commands.{command_by_name, command_of, facts_of, image_name}
+use Rattle.qcow2_session.specs.Commands.Apply.{first_unfit_in_file}
 use Rattle.qcow2_session.specs.Commands.Printing.{AppendsPart, OutputBytes}
 use Rattle.qcow2_session.specs.Commands.Report.{ReportsFault, fault_line}
-use Rattle.qcow2_session.specs.Commands.RunningOnFiles.{FitsFile, IsLengthFor, IsRefusedInFile, RunsLine, RunsOnFile, RunsWords, StopsOrEnds}
+use Rattle.qcow2_session.specs.Commands.RunningOnFiles.{ComparesWithFile, FitsFile, IsEditsFileFault, IsLengthFor, IsRefusedInFile, IsRepairFileFault, RunsLine, RunsOnFile, RunsWords, StopsOrEnds, edits_in_file, repair_in_file, told_beside}
 use Rattle.qcow2_session.specs.Commands.Running.{AfterHeader, EndsAndFlushes, FindsHeader}
 use Rattle.qcow2_session.specs.Commands.Verdict.{status_of_verdict}
 use Rattle.qcow2_session.specs.Commands.Words.{Word, WordList}
 use Rattle.qcow2_session.specs.declared.commands.Command.{Command}
+use Rattle.qcow2_session.specs.declared.commands.Command.TheVariants.{Apply}
+use Rattle.qcow2_session.specs.declared.commands.apply.ApplyForm.{ApplyForm}
+use Rattle.qcow2_session.specs.declared.commands.apply.DiskEdit.{DiskEdit}
 use Rattle.qcow2_session.specs.declared.commands.verdict.Verdict.{Verdict}
 use Rattle.qcow2_session.specs.declared.commands.verdict.Verdict.TheVariants.{Fine}
 
@@ -47,6 +55,58 @@ unread fault state other = record {
   device = record { tells = refl; mem_align = refl; req_align = refl };
 }
 
+-- nothing was read before a refusal that isn't the storage's fault
+pub refused-unread : {T V : Type 0} (view : T → V) (fault : Fault) (meaning : Image → Result V Fault) (IsRefusal : Fault → Type 0) (state : StorageState)
+    → ((bytes : Image) → meaning bytes ≡ Err fault) → IsRefusal fault → fault ≢ Storage → Reads {T = T} view (Err fault) meaning IsRefusal state state
+refused-unread view fault meaning IsRefusal state refused cause other =
+    record { exact = λ told. inr (inr (refused state.byte_at)); faults = inl cause; storage = unread fault state other }
+
+-- what doesn't refuse is none
+unrefused : (found : Option Fault) → unless_refused found (Ok (tt {0})) ≡ Ok tt → found ≡ None
+unrefused None is = refl
+unrefused (Some fault) is = absurd (grind (arith, is))
+
+-- an edit that doesn't fit the disk or the file is refused so
+pub bad-edit : (edits : List DiskEdit) (header : HeaderRecord) (len position : ℕ) (state : StorageState)
+    → unless_refused (short_l1_refusal header) (Ok (tt {0})) ≡ Ok tt → uses_external_data header ≡ false → first_unfit_in_file len header edits ≡ Some position
+    → Reads {T = Unit {0}} (λ done. done) (Err (BadEdit position)) (edits_in_file edits header len) (IsEditsFileFault edits header) state state
+bad-edit edits header len position state long inside unfit =
+    let none = unrefused (short_l1_refusal header) long in
+    refused-unread (λ done. done) (BadEdit position) (edits_in_file edits header len) (IsEditsFileFault edits header) state
+    (λ bytes. rw (none, inside, unfit) refl) (inr (inl (len, ap (option_map BadEdit) unfit))) (λ is. grind (arith, is))
+
+-- and a header by which an image can't be repaired
+pub bad-header : (header : HeaderRecord) (len : ℕ) (fault : Fault) (state : StorageState) → unless_refused (header_refusal header) (Ok (tt {0})) ≡ Err fault
+    → Reads {T = Unit {0}} (λ done. done) (Err fault) (repair_in_file header len) (IsRepairFileFault header) state state
+bad-header header len fault state refused =
+    let is = refused-is (header_refusal header) fault refused in
+    refused-unread (λ done. done) fault (repair_in_file header len) (IsRepairFileFault header) state
+    (λ bytes. rw is refl) (inl is) (header-cause header fault is).1
+
+-- edits were compared with the length of the image's file
+pub edits-compared : (file : FileContent) (form : ApplyForm) (edits : List DiskEdit) (header : HeaderRecord) (old new : StorageState) (len : ℕ) (answer : Result (Unit {0}) Fault)
+    → OnFile file (len ≡ file.len)
+    → Reads {T = Unit {0}} (λ done. done) answer (edits_in_file edits header len) (IsEditsFileFault edits header) old new
+    → ComparesWithFile file (Apply form edits) header old answer
+edits-compared file form edits header old new len (Ok done) same reads =
+    λ known told. subst (λ n. edits_in_file edits header n old.byte_at ≡ Ok tt) (same known) (reads.exact told)
+edits-compared file form edits header old new len (Err fault) same reads = record {
+  refusal = reads.faults;
+  known = λ known told. elim (reads.exact told) [
+    | inl failed ↦ inl (inr failed)
+    | inr rest ↦ elim rest [
+      | inl full ↦ inl (inl full)
+      | inr refused ↦ inr (subst (λ n. edits_in_file edits header n old.byte_at ≡ Err fault) (same known) refused)
+    ]
+  ];
+}
+
+-- what a run came to is a fault too once it is told beside other programs, if it was one
+pub placed-beside : (Kept : Type 0) (found : Option Fault) (ran told : Result Verdict Fault) → (IsErr ran → IsErr told) → IfSome found (λ _. IsErr ran × Kept)
+    → IfSome found (λ _. IsErr told × Kept)
+placed-beside Kept None ran told errs held = tt
+placed-beside Kept (Some fault) ran told errs held = (errs held.0, held.1)
+
 -- or its command ran, over what the header left, and what it left is the image
 pub ran-between : {O : Type 0} (command : Command) (file : FileContent) (header : HeaderRecord) (answer : Result Verdict Fault) (contents : O → OutputBytes)
     (old left begun ended new : StorageState) (before after : O)
@@ -71,22 +131,24 @@ not-opened command path old left new answer contents out is same fails =
 
 -- what a run left in the open file of a path is in that once it is closed
 pub closed-file : {F O : Type 0} (known : F → FileContent) (command : Command) (path : Word) (old measured opened new : Word → PathFile) (len : Option ℕ)
-    (begun ended : FileStorage F) (answer : Result Verdict Fault) (contents : O → OutputBytes) (before after : O)
+    (begun ended : FileStorage F) (ran answer : Result Verdict Fault) (in_use : Bool) (contents : O → OutputBytes) (before after : O)
     → IsLengthFor (old path).content command len → measured ≡ old
     → known (file_of begun) ≡ (measured path).content → failures_of begun ≡ 0
     → ((file : FileContent) → IsLengthFor file command len
-    → AfterHeader (facts_of command) (StopsOrEnds file command) (run_between contents answer (file_state known begun) (file_state known ended) before after))
+    → AfterHeader (facts_of command) (StopsOrEnds file command) (run_between contents ran (file_state known begun) (file_state known ended) before after))
+    → opened ≡ measured → OnFile (opened path).content (in_use ≡ false) → answer ≡ told_beside in_use ran
     → ClosesImage known ended path opened new
     → RunsOnFile command (old path) (new path) answer contents before after
-closed-file known command path old measured opened new len begun ended answer contents before after length same is none ran closes =
+closed-file known command path old measured opened new len begun ended ran answer in_use contents before after length same is none runs untouched alone told closes =
     let file = (old path).content in
     let first : known (file_of begun) ≡ file = subst (λ (files : Word → PathFile). known (file_of begun) ≡ (files path).content) same is in
     let Ran : FileContent → ℕ → FileContent → Type 0 = λ content failures left. AfterHeader (facts_of command) (StopsOrEnds file command)
-    (run_between contents answer (state_over content failures) (state_over left (failures_of ended)) before after) in
-    let over = subst (λ (content : FileContent). Ran content (failures_of begun) (known (file_of ended))) first (ran file length) in
+    (run_between contents ran (state_over content failures) (state_over left (failures_of ended)) before after) in
+    let over = subst (λ (content : FileContent). Ran content (failures_of begun) (known (file_of ended))) first (runs file length) in
     let anew = subst (λ (failures : ℕ). Ran file failures (known (file_of ended))) none over in
     let left = subst (λ (content : FileContent). Ran file 0 content) (sym closes.content) anew in
-    inr (failures_of ended, λ tells. sym (closes.failures (rw closes.content at tells)), left)
+    let alone = subst (λ (files : Word → PathFile). OnFile (files path).content (in_use ≡ false)) (untouched ∙ same) alone in
+    inr (ran, in_use, alone, told, failures_of ended, λ tells. sym (closes.failures (rw closes.content at tells)), left)
 
 -- what changed after calls that changed nothing
 pub changed-since : (path : Word) (old left new : Word → PathFile) → left ≡ old → ChangesOne path left new → ChangesOne path old new

@@ -6,13 +6,14 @@ use Rattle.qcow2_base.specs.Storage.{Image}
 use Rattle.qcow2_check.proofs.FindingsListLemmas.{none-just-where-right}
 use Rattle.qcow2_check.specs.Findings.{image_findings}
 use Rattle.qcow2_check.specs.Flags.{image_flags}
+use Rattle.qcow2_check.specs.L1Length.{is_l1_short}
 use Rattle.qcow2_check.specs.Uses.{ImageTables}
 use Rattle.qcow2_check.specs.declared.findings.Finding.{Finding}
 use Rattle.qcow2_check.specs.declared.flags.WrongFlag.{WrongFlag}
 use Rattle.qcow2_metadata.specs.Table.L2Guards.{one_if}
 use Rattle.qcow2_summary.specs.Consistency.{IsConsistent}
 use Rattle.qcow2_session.proofs.AccountLemmas.{kind-joined}
-use Rattle.qcow2_session.proofs.ConsistentLemmas.{right-where-fine}
+use Rattle.qcow2_session.proofs.ConsistentLemmas.{fine-in, right-where-fine}
 use Rattle.qcow2_session.proofs.RunsLemmas.{further}
 use Rattle.qcow2_session.specs.Commands.Check.{report_on}
 use Rattle.qcow2_session.specs.Commands.Check.Runs.{runs_of, single}
@@ -37,15 +38,21 @@ no-flags (flag ∷ flags) set unset = absurd (counts flag.is_set _ _
     (sym (sum_by-cons (λ (flag : WrongFlag). one_if flag.is_set) flag flags) ∙ set)
     (sym (sum_by-cons (λ (flag : WrongFlag). one_if (not flag.is_set)) flag flags) ∙ unset))
 
-pub consistent-where-fine : (tables : ImageTables) (image : Image) → (report_on tables image).verdict ≡ Fine → IsConsistent tables image
+pub consistent-where-fine : (tables : ImageTables) (image : Image) → (report_on tables image).verdict ≡ Fine
+    → IsConsistent tables image × (is_l1_short tables.header ≡ false)
 consistent-where-fine tables image fine =
-    let none = fine-flags (totals_on tables image) fine in (
-      (none-just-where-right tables image).1 (right-where-fine tables image fine),
-      no-flags (image_flags tables image) (omega (arith, none.0)) (omega (arith, none.1)),
+    let both = fine-in tables.header (totals_on tables image) fine in
+    let none = fine-flags (totals_on tables image) both.1 in (
+      (
+        (none-just-where-right tables image).1 (right-where-fine tables image fine),
+        no-flags (image_flags tables image) (omega (arith, none.0)) (omega (arith, none.1)),
+      ),
+      both.0,
     )
 
-pub fine-where-consistent : (tables : ImageTables) (image : Image) → IsConsistent tables image → (report_on tables image).verdict ≡ Fine
-fine-where-consistent tables image none = rw (none.0, none.1) refl
+pub fine-where-consistent : (tables : ImageTables) (image : Image) → IsConsistent tables image × (is_l1_short tables.header ≡ false)
+    → (report_on tables image).verdict ≡ Fine
+fine-where-consistent tables image none = rw (none.1, none.0.0, none.0.1) refl
 
 -- the clusters of a kind, of all runs, are the findings of the kind
 found-in-runs : (is_kind : Finding → Bool) → ((finding : Finding) → is_kind (further finding 1) ≡ is_kind finding) → (findings : List Finding)

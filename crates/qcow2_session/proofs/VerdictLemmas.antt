@@ -7,7 +7,7 @@ use Rattle.qcow2_metadata.specs.Header.{HeaderRecord}
 use Rattle.qcow2_metadata.specs.Placed.{Layout}
 use Rattle.qcow2_changes.specs.declared.changed_clusters.ChangedClusters.{ChangedClusters}
 use Rattle.qcow2_session.proofs.PrintingLemmas.{run_between}
-use Rattle.qcow2_session.specs.Commands.Apply.{EndsApply, PrintsClusters}
+use Rattle.qcow2_session.specs.Commands.Apply.{EndsApply, PrintsChanges}
 use Rattle.qcow2_session.specs.Commands.Changing.{ChangeEnd, PrintsChange}
 use Rattle.qcow2_session.specs.Commands.Layout.{PrintsLayout}
 use Rattle.qcow2_session.specs.Commands.List.{PrintsList, PrintsTablesBefore, TableTexts}
@@ -113,13 +113,13 @@ pub fine-ReadsFor : (ran : Result (Unit {0}) Fault) (old new : StorageState) →
 fine-ReadsFor ran old new reads = record { failed = λ moved. fine-IsErrOf ran Storage (reads.failed moved); bytes = reads.bytes; device = reads.device }
 
 -- what becomes of clusters was printed
-fine-PrintsClusters : {O : Type 0} (done : Result ChangedClusters Fault) (ran : Result (Unit {0}) Fault) (contents : O → OutputBytes) (old new : StorageState) (a b : O)
-    → PrintsClusters done (run_between contents ran old new a b) → PrintsClusters done (run_between contents (fine_unless_failed ran) old new a b)
-fine-PrintsClusters (Ok clusters) ran contents old new a b prints = fine-PrintsText ran _ _ _ prints
-fine-PrintsClusters (Err fault) ran contents old new a b refused = (ap fine_unless_failed refused.0, refused.1)
+fine-PrintsChanges : {O : Type 0} (form : ApplyForm) (header : HeaderRecord) (done : Result ChangedClusters Fault) (ran : Result (Unit {0}) Fault) (contents : O → OutputBytes) (old new : StorageState) (a b : O)
+    → PrintsChanges form header done (run_between contents ran old new a b) → PrintsChanges form header done (run_between contents (fine_unless_failed ran) old new a b)
+fine-PrintsChanges form header (Ok clusters) ran contents old new a b prints = fine-PrintsText ran _ _ _ prints
+fine-PrintsChanges form header (Err fault) ran contents old new a b refused = (ap fine_unless_failed refused.0, refused.1)
 
 -- edits of a disk were made or planned
 pub fine-EndsApply : {O : Type 0} (ran : Result (Unit {0}) Fault) (form : ApplyForm) (edits : List DiskEdit) (header : HeaderRecord) (contents : O → OutputBytes) (old new : StorageState) (a b : O)
     → EndsApply form edits header (run_between contents ran old new a b) → EndsApply form edits header (run_between contents (fine_unless_failed ran) old new a b)
 fine-EndsApply ran form edits header contents old new a b (inl out) = inl (ap fine_unless_failed out.0, out.1, out.2)
-fine-EndsApply ran form edits header contents old new a b (inr (done, ends, reports, prints)) = inr (done, ends, reports, fine-PrintsClusters done ran contents old new a b prints)
+fine-EndsApply ran form edits header contents old new a b (inr (done, ends, reports, prints)) = inr (done, ends, reports, fine-PrintsChanges form header done ran contents old new a b prints)

@@ -30,7 +30,7 @@ use Rattle.qcow2_session.specs.Commands.Count.{count_command, count_facts}
 use Rattle.qcow2_session.specs.Commands.Edit.{edit_command, edit_facts}
 use Rattle.qcow2_session.specs.Commands.Explain.{explained_text}
 use Rattle.qcow2_session.specs.Commands.Facts.{CommandFacts}
-use Rattle.qcow2_session.specs.Commands.Help.{asked_text}
+use Rattle.qcow2_session.specs.Commands.Help.{ask_for_help, asked_text}
 use Rattle.qcow2_session.specs.Commands.Info.{info_facts}
 use Rattle.qcow2_session.specs.Commands.L2.{l2_command, l2_facts}
 use Rattle.qcow2_session.specs.Commands.Layout.{layout_command, layout_facts}
@@ -42,9 +42,10 @@ use Rattle.qcow2_session.specs.Commands.Words.{Word, WordList, command_alone}
 use Rattle.qcow2_session.specs.declared.commands.Command.{Command}
 use Rattle.qcow2_session.specs.declared.commands.Command.TheVariants as command
 
--- the command that a name, the image's name and the words after it ask for, if they ask for one
-abbrev pub command_by_name : Word → Word → WordList → Option Command
-command_by_name name image arguments =
+-- the command that a name, the image's name and the words after it ask for, if they ask for one. An image's name may be any
+-- word
+abbrev pub named_command : Word → Word → WordList → Option Command
+named_command name image arguments =
     if bytes_eq name (codes "info") then command_alone command.Info arguments
     else if bytes_eq name (codes "list") then command_alone command.List arguments
     else if bytes_eq name (codes "map") then map_command arguments
@@ -57,6 +58,10 @@ command_by_name name image arguments =
     else if bytes_eq name (codes "count") then count_command arguments
     else if bytes_eq name (codes "apply") then apply_command arguments
     else if bytes_eq name (codes "l2") then l2_command arguments else None
+
+-- the same where words that ask for a command's help ask for none
+abbrev pub command_by_name : Word → Word → WordList → Option Command
+command_by_name name image arguments = if ask_for_help name (image ∷ arguments) then None else named_command name image arguments
 
 -- the command that a line of words asks for, if it asks for one: its first word is the command's name, its second that
 -- of the image

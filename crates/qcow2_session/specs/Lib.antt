@@ -1,3 +1,4 @@
 pub mod Commands
 pub mod EditedDisk
 pub mod Lines
+pub mod RepairedDisk

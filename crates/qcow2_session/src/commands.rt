@@ -33,6 +33,7 @@ pub use at::print_mapping_at;
 pub use check::{CheckForm, check_image, check_image_in_json, repair_and_check_image};
 pub use count::count_references;
 pub use edit::edit_entries;
+use help::asks_for_help;
 pub use info::print_info;
 pub use l2::{ClusterBits, list_l2_table};
 pub use layout::{LayoutForm, print_layout};
@@ -101,8 +102,10 @@ pub enum Command {
 }
 
 impl Command {
-    /// The command that a name, the image's name and the words after it ask for, if they ask for one. Fails
-    /// only where memory for such a command runs out.
+    /// The command that a name, the image's name and the words after it ask for, if they ask for one.
+    /// `--help` or `-h` alone after the name is an image's name for `info`, `list`, `at`, `edit`, `count`
+    /// and `l2`. After others it asks for help, and for no command. Fails only where memory for a command
+    /// runs out.
     pub fn parse(
         alloc: Global,
         name: &str,
@@ -110,6 +113,21 @@ impl Command {
         arguments: &[String],
     ) -> Option<Result<Command, AllocError>>
         ensures { Parses result (spec.command_by_name name.now image.now (map string_bytes arguments.now)) }
+    {
+        if arguments.is_empty() && asks_for_help(name, image) {
+            return None;
+        }
+        Command::parse_named(alloc, name, image, arguments)
+    }
+
+    // The same where an image may have any name.
+    fn parse_named(
+        alloc: Global,
+        name: &str,
+        image: &str,
+        arguments: &[String],
+    ) -> Option<Result<Command, AllocError>>
+        ensures { Parses result (spec.named_command name.now image.now (map string_bytes arguments.now)) }
     {
         match name {
             "info" => alone(Command::Info, arguments),

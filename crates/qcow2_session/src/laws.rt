@@ -4,14 +4,16 @@
 ghost use Rattle.std.specs.Prelude.{◌≡◌, ◌≢◌, ◌↔◌, ℕ, ◌/◌, ◌^◌, List, ◌∷◌, ◌++◌, true, false, IsTrue, None, Ok, Result};
 ghost use Rattle.std.specs.List.{All, list_any, sum_by};
 ghost use Rattle.qcow2_base.specs.Format.{max_file_length};
-ghost use Rattle.qcow2_base.specs.Storage.{Image, StorageState};
+ghost use Rattle.qcow2_base.specs.Storage.{Image, IsBytes, StorageState};
 ghost use Rattle.qcow2_base.specs.declared.fault.Fault.{Fault};
 ghost use Rattle.qcow2_metadata.specs.Entries.L2Mapping.{Mapping};
 ghost use Rattle.qcow2_metadata.specs.Header.{HeaderRecord, IsValidHeader, geometry_of};
 ghost use Rattle.qcow2_metadata.specs.Header.Grammar.{header_of};
 ghost use Rattle.qcow2_metadata.specs.Header.Open.{header_after_load};
 ghost use Rattle.qcow2_metadata.specs.Results.{Answers, result_map};
+ghost use Rattle.qcow2_check.specs.Counters.{blocks_fault};
 ghost use Rattle.qcow2_check.specs.Findings.{AreRight, checked_tables, image_findings};
+ghost use Rattle.qcow2_check.specs.L1Length.{is_l1_short};
 ghost use Rattle.qcow2_check.specs.Uses.{ImageTables};
 ghost use Rattle.qcow2_metadata.specs.Table.L2Guards.{one_if};
 ghost use Rattle.qcow2_summary.specs.Consistency.{IsConsistent};
@@ -23,12 +25,14 @@ ghost use Rattle.qcow2_changes.specs.declared.changed_clusters.ChangedClusters.{
 ghost use Rattle.qcow2_guest_edits.specs.declared.guest_edits.GuestEdit.{GuestEdit};
 ghost use Rattle.qcow2_apply.specs.declared.plan.Plan.{Plan};
 ghost use Rattle.qcow2_image.specs.Lookups.{guest_mapping, image_mapping, mapping_in};
+ghost use Rattle.qcow2_repair.specs.Repair.{IsRepaired};
 ghost use Rattle.qcow2_session.specs.Commands.{facts_of};
 ghost use Rattle.qcow2_session.specs.Commands.Running.{FindsHeader};
 ghost use Rattle.qcow2_session.specs.declared.commands.Command.{Command};
 ghost use Rattle.qcow2_session.specs.Commands.Check.{FindsNoHarm, report_on};
 ghost use Rattle.qcow2_session.specs.Commands.Check.Totals.{has_exclusive_uses, is_leaked, is_missing, totals_on};
 ghost use Rattle.qcow2_session.specs.EditedDisk.{covers, mapping_after, mapping_left};
+ghost use Rattle.qcow2_session.specs.RepairedDisk.{ReadSame};
 ghost use Rattle.qcow2_session.specs.declared.commands.verdict.Verdict.TheVariants.{Fine, Harmful};
 
 pub use qcow2_edits::laws::{
@@ -57,17 +61,18 @@ pub fn all_is_right_where_the_verdict_is_fine()
         AreRight tables image 0 max_file_length }
 {}
 
-/// A check's verdict is `Fine` exactly where the image is consistent: nothing is found of a cluster, and no
-/// copied flag is wrong.
+/// A check's verdict is `Fine` exactly where the image is consistent and its L1 table is long enough: nothing
+/// is found of a cluster, no copied flag is wrong, and no part of the disk is past the L1 table.
 pub fn a_verdict_is_fine_just_where_an_image_is_consistent()
-    ensures { (tables : ImageTables) (image : Image) →
-        ((report_on tables image).verdict ≡ Fine) ↔ IsConsistent tables image }
+    ensures { (tables : ImageTables) (image : Image) → ((report_on tables image).verdict ≡ Fine)
+        ↔ (IsConsistent tables image × (is_l1_short tables.header ≡ false)) }
 {}
 
-/// A check's verdict is `Harmful` exactly where a cluster is missing or shared, or a flag is false.
+/// A check's verdict is `Harmful` exactly where a cluster is missing or shared, a flag is false, or the L1
+/// table is too short for the disk.
 pub fn a_verdict_is_harmful_just_where_there_are_errors()
-    ensures { (tables : ImageTables) (image : Image) →
-        ((report_on tables image).verdict ≢ Harmful) ↔ HasNoErrors tables image }
+    ensures { (tables : ImageTables) (image : Image) → ((report_on tables image).verdict ≢ Harmful)
+        ↔ (HasNoErrors tables image × (is_l1_short tables.header ≡ false)) }
 {}
 
 /// The totals that a check prints count each cluster that is found, once for each of its kinds: leaked,
@@ -92,6 +97,15 @@ pub fn edits_of_a_disk_leave_no_harm_where_there_was_none()
         checked_tables header old ≡ Ok tables → ArePlacesApart (l2_tables_of tables) →
         FindsNoHarm header old → FindsNoHarm left new
         × (header_of old ≡ Ok header → LosesNoName header → header_of new ≡ Ok left) }
+{}
+
+/// Where a check's verdict on an image isn't `Harmful`, and no two L1 entries name one L2 table, its tables
+/// and blocks are apart, as other laws ask. Leaked clusters and late flags don't matter. A check doesn't see
+/// an L2 table that two L1 entries name as shared, as snapshots share tables in that way.
+pub fn tables_and_blocks_are_apart_where_a_check_finds_no_harm()
+    ensures { (tables : ImageTables) (image : Image) → (report_on tables image).verdict ≢ Harmful →
+        blocks_fault tables.header tables.reftable ≡ None → ArePlacesApart (l2_tables_of tables) →
+        AreAllApart tables }
 {}
 
 /// Where edits of a disk were made in an image whose tables and blocks are apart, each guest offset that no
@@ -142,6 +156,39 @@ pub fn a_consistent_image_reads_as_edits_leave_it()
         ArePlacesApart (l2_tables_of (tables_by header plan)) → (offset : ℕ) →
         image_mapping offset new
         ≡ result_map (mapping_left header.v2.cluster_bits offset edits) (image_mapping offset old) }
+{}
+
+/// The same holds where a check's verdict on the image isn't `Harmful`: leaked clusters and late flags may be
+/// found of it.
+pub fn a_disk_without_harm_reads_as_edits_leave_it()
+    ensures { (header : HeaderRecord) (edits : List GuestEdit) (plan : Plan) (old new : Image) →
+        IsValidHeader header → IsPlanFor header edits plan → IsPlanOf header edits old plan →
+        FollowsPlan header edits plan (Ok tt) old new →
+        (report_on (tables_by header plan) old).verdict ≢ Harmful →
+        ArePlacesApart (l2_tables_of (tables_by header plan)) → (offset : ℕ) →
+        mapping_in header offset new
+        ≡ result_map (mapping_left header.v2.cluster_bits offset edits) (mapping_in header offset old) }
+{}
+
+/// And so it does by the image's bytes alone, if no byte of the backing file's name is one of the header's
+/// autoclear features, or it has none of these.
+pub fn an_image_without_harm_reads_as_edits_leave_it()
+    ensures { (header : HeaderRecord) (edits : List GuestEdit) (plan : Plan) (old new : Image) →
+        header_of old ≡ Ok header → LosesNoName header → IsValidHeader header →
+        IsPlanFor header edits plan → IsPlanOf header edits old plan →
+        FollowsPlan header edits plan (Ok tt) old new →
+        (report_on (tables_by header plan) old).verdict ≢ Harmful →
+        ArePlacesApart (l2_tables_of (tables_by header plan)) → (offset : ℕ) →
+        image_mapping offset new
+        ≡ result_map (mapping_left header.v2.cluster_bits offset edits) (image_mapping offset old) }
+{}
+
+/// A repair that was done keeps what each guest offset reads as, by the header that it leaves: the same kind,
+/// with the same cluster, offset and length. Only the copied flag may be another.
+pub fn a_repaired_disk_reads_as_before()
+    ensures { (header written : HeaderRecord) (old new : Image) → IsValidHeader header → IsBytes old →
+        IsRepaired header written old new → (offset : ℕ) →
+        ReadSame (mapping_in written offset new) (mapping_in header offset old) }
 {}
 
 /// Of edits whose ranges have a guest offset the last decides what it reads as: data in its host cluster,

@@ -27,7 +27,7 @@ pub(crate) fn check_books(
 ) -> Result<(), Fault> {
     let totals = readings.totals;
     let verdict = match (
-        totals.has_errors(),
+        totals.has_errors() || trial.fields.is_l1_short(),
         totals.leaked != 0 || totals.late_flags != 0,
     ) {
         (true, _) => Verdict::Harmful,
@@ -54,10 +54,14 @@ fn check_json(trial: &mut Trial<'_>, readings: &Readings) -> Result<(), Fault> {
     let corruptions = totals
         .missing
         .saturating_add(totals.false_flags)
-        .saturating_add(totals.late_flags);
+        .saturating_add(totals.late_flags)
+        .saturating_add(u64::from(check.is_ok() && trial.fields.is_l1_short()));
     let text = trial.printed();
     let is_same = json_number(text, "\"leaks\"") == Some(totals.leaked)
-        && json_number(text, "\"corruptions\"") == Some(corruptions);
+        && json_number(text, "\"corruptions\"") == Some(corruptions)
+        && json_number(text, "\"shared\"") == Some(totals.shared)
+        && json_number(text, "\"false-flags\"") == Some(totals.false_flags)
+        && json_number(text, "\"late-flags\"") == Some(totals.late_flags);
     trial.unless(
         check == readings.check && is_same,
         line,

@@ -69,6 +69,17 @@ fn read_map(trial: &mut Trial<'_>) -> Result<(Answer, Vec<Extent>), Fault> {
 /// Runs `check`, and returns its totals too. Where it is refused, there are none.
 pub(crate) fn read_check(trial: &mut Trial<'_>) -> Result<(Answer, Totals), Fault> {
     let check = trial.run(Kind::Check, "check IMAGE")?;
+    let is_short = trial
+        .printed()
+        .lines()
+        .any(|line| line.starts_with("short-l1 "));
+    let holds = check.is_err() || is_short == trial.fields.is_l1_short();
+    trial.unless(
+        holds,
+        "check IMAGE",
+        "whether the L1 table is too short",
+        "otherwise",
+    );
     match totals_in(trial.printed()) {
         Some(totals) => Ok((check, totals)),
         None => {

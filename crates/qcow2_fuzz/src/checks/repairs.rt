@@ -10,6 +10,8 @@ use qcow2_base::Fault;
 pub(crate) fn check_repair(trial: &mut Trial<'_>, readings: &Readings) -> Result<(), Fault> {
     let line = "check IMAGE repair";
     let repair = trial.run(Kind::Repair, line)?;
+    let holds = repair.is_err() || !trial.fields.is_l1_short();
+    trial.unless(holds, line, "a fault, as the L1 table is too short", "none");
     if repair.is_err() {
         return trial.restore();
     }

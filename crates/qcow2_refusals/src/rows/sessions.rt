@@ -137,7 +137,8 @@ const CHECKED: &str = "leaked 5 1 2 1\nleaked 7 1 1 0\nfalse 0x600 5 2\n\
     leaked 2 missing 0 shared 0 false 1 late 0\n";
 
 const OBJECT: &str = "{\n    \"image-end-offset\": 4096,\n    \"total-clusters\": 64,\n    \
-    \"corruptions\": 1,\n    \"check-errors\": 0,\n    \"leaks\": 2,\n    \"allocated-clusters\": 1,\n    \
+    \"corruptions\": 1,\n    \"check-errors\": 0,\n    \"leaks\": 2,\n    \"false-flags\": 1,\n    \
+    \"allocated-clusters\": 1,\n    \
     \"filename\": \"IMAGE\",\n    \"format\": \"qcow2\"\n}\n";
 
 const DATA: &str = "DataFile { host_cluster: HostCluster(5), copied: true }";

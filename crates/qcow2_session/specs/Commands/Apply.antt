@@ -11,6 +11,7 @@ use Rattle.qcow2_base.specs.declared.fault.Fault.TheVariants.{NoMemory}
 use Rattle.qcow2_check.specs.Failures.{ReportsFailures}
 use Rattle.qcow2_edits.specs.Edits.{cluster_numbers}
 use Rattle.qcow2_metadata.specs.Header.{HeaderRecord}
+use Rattle.qcow2_metadata.specs.Header.BitmapCount.{consistent_bitmaps}
 use Rattle.qcow2_metadata.specs.Results.{IsFromOutside}
 use Rattle.qcow2_apply.specs.Apply.{EditsDisk}
 use Rattle.qcow2_guest_edits.specs.GuestEdits.{guest_edit_fits}
@@ -124,10 +125,21 @@ abbrev pub makes_edits : ApplyForm → Bool
 makes_edits Make = true
 makes_edits Plan = false
 
--- what edits came to was printed: what becomes of clusters, or nothing, and the fault is the run's
-abbrev pub PrintsClusters : {A O : Type 0} → Result ChangedClusters Fault → Run A O → Type 0
-PrintsClusters done run = MatchResult done
-    (λ clusters. PrintsText run.answer (run.contents run.before) (run.contents run.after) (changed_lines clusters))
+-- how many bitmaps edits of a disk of this header make stale, as far as a form says it
+abbrev pub stale_bitmaps : ApplyForm → HeaderRecord → Option ℕ
+stale_bitmaps Make header = None
+stale_bitmaps Plan header = consistent_bitmaps header
+
+-- the line of that number, if there is one
+abbrev pub bitmaps_line : Option ℕ → List ℕ
+bitmaps_line None = []
+bitmaps_line (Some count) = codes "stale-bitmaps " ++ decimal count ++ codes "\n"
+
+-- what edits came to was printed: what becomes of clusters and of bitmaps, or nothing, and the fault is the run's
+abbrev pub PrintsChanges : {A O : Type 0} → ApplyForm → HeaderRecord → Result ChangedClusters Fault → Run A O → Type 0
+PrintsChanges form header done run = MatchResult done
+    (λ clusters. PrintsText run.answer (run.contents run.before) (run.contents run.after)
+    (changed_lines clusters ++ bitmaps_line (stale_bitmaps form header)))
     (λ fault. (run.answer ≡ Err fault) × (run.after ≡ run.before))
 
 -- memory for the edits ran out, before anything was done
@@ -150,7 +162,7 @@ EndsEdits Plan header edits done old new = OnImage old (PlansEdits header edits 
 abbrev pub EndsApply : {A O : Type 0} → ApplyForm → List DiskEdit → HeaderRecord → Run A O → Type 0
 EndsApply form edits header run = RunsOut run ⊎ ((done : Result ChangedClusters Fault)
     × EndsEdits form header (guest_edits header edits) done run.old run.new
-    × ReportsFailures done run.old run.new × PrintsClusters done run)
+    × ReportsFailures done run.old run.new × PrintsChanges form header done run)
 
 -- the facts of the command `apply`
 abbrev pub apply_facts : ApplyForm → List DiskEdit → CommandFacts

@@ -15,9 +15,9 @@ use Rattle.qcow2_metadata.specs.Header.{HeaderRecord}
 use Rattle.qcow2_metadata.specs.Results.{IsFromOutside, result_map}
 use Rattle.qcow2_repair.specs.Repair.{RepairsImage}
 use Rattle.qcow2_session.specs.Commands.Check.Json.{checked_object}
-use Rattle.qcow2_session.specs.Commands.Check.Lines.{flag_line, run_lines, totals_line}
+use Rattle.qcow2_session.specs.Commands.Check.Lines.{end_lines, flag_line, run_lines}
 use Rattle.qcow2_session.specs.Commands.Check.Runs.{runs_of}
-use Rattle.qcow2_session.specs.Commands.Check.Totals.{totals_on, verdict_of}
+use Rattle.qcow2_session.specs.Commands.Check.Totals.{totals_on, verdict_in}
 use Rattle.qcow2_session.specs.Commands.Facts.{CommandFacts, plain_facts}
 use Rattle.qcow2_session.specs.Commands.Printing.{OutputGets, OutputGetsPart, Prints, Run}
 use Rattle.qcow2_session.specs.Commands.Words.{Word, WordList}
@@ -33,15 +33,16 @@ pub record Report : Type 0 where
   pub lines : List ℕ
   pub verdict : Verdict
 
--- the report on an image with these tables: the runs of findings, the wrong flags, and how many they are
+-- the report on an image with these tables: the runs of findings, the wrong flags, whether the L1 table is too short, and how
+-- many they are
 abbrev pub report_on : ImageTables → Image → Report
 report_on tables image =
     let runs = runs_of (image_findings tables image) in
     let flags = image_flags tables image in
     let totals = totals_on tables image in
     record {
-      lines = flat_map run_lines runs ++ flat_map flag_line flags ++ totals_line totals;
-      verdict = verdict_of totals;
+      lines = flat_map run_lines runs ++ flat_map flag_line flags ++ end_lines tables.header totals;
+      verdict = verdict_in tables.header totals;
     }
 
 -- the report on an image with this header, or why it can't be checked

@@ -1,16 +1,17 @@
 -- What does a run of a command come to over the file of a path, and that of a line of words?
-use Rattle.std.specs.Prelude.{◌≡◌, ◌<◌, ◌≤◌, ◌⊎◌, ℕ, false, if◌then◌else◌, IsTrue, List, Option, Some, None, IfSome, option_map, Result, Ok, Err, IsErrAnd, MatchResult}
+use Rattle.std.specs.Prelude.{◌≡◌, ◌<◌, ◌≤◌, ◌⊎◌, ℕ, Bool, true, false, if◌then◌else◌, IsTrue, List, Option, Some, None, IfSome, option_map, Result, Ok, Err, IsErrAnd, MatchResult}
 use Rattle.std.specs.Io.KnownBytes.{Keeps}
 use Rattle.qcow2_base.specs.Storage.{Image, OnImage, OnlyReads, StorageState}
 use Rattle.qcow2_base.specs.Storage.File.{state_over}
 use Rattle.qcow2_base.specs.Storage.ImageFile.{FileContent, OnFile}
 use Rattle.qcow2_base.specs.Storage.ImageFiles.{ChangesOne, PathFile}
 use Rattle.qcow2_base.specs.declared.fault.Fault.{Fault}
-use Rattle.qcow2_base.specs.declared.fault.Fault.TheVariants.{BadEdit, NoMemory, Storage}
-use Rattle.qcow2_check.specs.Findings.{IsCheckFault}
+use Rattle.qcow2_base.specs.declared.fault.Fault.TheVariants.{BadEdit, InUse, NoMemory, Storage}
+use Rattle.qcow2_check.specs.L1Length.{short_l1_refusal}
 use Rattle.qcow2_metadata.specs.Header.{HeaderRecord, uses_external_data}
 use Rattle.qcow2_metadata.specs.Results.{IsFromOutside, unless_refused}
-use Rattle.qcow2_repair.specs.FileEnd.{tables_in_file}
+use Rattle.qcow2_repair.specs.FileEnd.{IsTablesFault, tables_in_file}
+use Rattle.qcow2_repair.specs.Refusals.{header_refusal}
 use Rattle.qcow2_session.specs.Commands.{facts_of}
 use Rattle.qcow2_session.specs.Commands.Apply.{first_unfit_in_file}
 use Rattle.qcow2_session.specs.Commands.Printing.{OutputBytes, Run}
@@ -24,17 +25,22 @@ use Rattle.qcow2_session.specs.declared.commands.apply.DiskEdit.{DiskEdit}
 use Rattle.qcow2_session.specs.declared.commands.check.CheckForm.TheVariants.{Repair}
 use Rattle.qcow2_session.specs.declared.commands.verdict.Verdict.{Verdict}
 
--- why edits can't be made of a disk whose image has this header, in a file of this length: the position of the first that
--- doesn't fit the disk, or maps a cluster past the file's end. With an external data file clusters lie elsewhere
-abbrev pub edits_in_file : HeaderRecord → ℕ → List DiskEdit → Result (Unit {0}) Fault
-edits_in_file header len edits = if uses_external_data header then Ok tt
-    else unless_refused (option_map BadEdit (first_unfit_in_file len header edits)) (Ok tt)
+-- why edits can't be made of the disk of an image with this header, in a file of this length, if they can't: the L1 table is too
+-- short, the first edit that doesn't fit the disk or maps a cluster past the file's end, or a table that the file doesn't have.
+-- With an external data file clusters lie elsewhere, and the edits are refused for that
+abbrev pub edits_in_file : List DiskEdit → HeaderRecord → ℕ → Image → Result (Unit {0}) Fault
+edits_in_file edits header len image = unless_refused (short_l1_refusal header) (if uses_external_data header then Ok tt
+    else unless_refused (option_map BadEdit (first_unfit_in_file len header edits)) (tables_in_file len header image))
 
--- why a command doesn't go with an image with this header in a file of this length, if it doesn't: an edit of the disk is bad,
--- or a repair would go by a table that the file doesn't have
+-- why an image with this header can't be repaired in a file of this length, if it can't: by the header alone, or by a table
+-- that the file doesn't have
+abbrev pub repair_in_file : HeaderRecord → ℕ → Image → Result (Unit {0}) Fault
+repair_in_file header len image = unless_refused (header_refusal header) (tables_in_file len header image)
+
+-- why a command doesn't go with an image with this header in a file of this length, if it doesn't
 abbrev pub command_in_file : Command → HeaderRecord → ℕ → Image → Result (Unit {0}) Fault
-command_in_file (Apply form edits) header len image = edits_in_file header len edits
-command_in_file (Check Repair) header len image = tables_in_file len header image
+command_in_file (Apply form edits) header len image = edits_in_file edits header len image
+command_in_file (Check Repair) header len image = repair_in_file header len image
 command_in_file _ header len image = Ok tt
 
 -- where the file is known, a command goes with an image in it
@@ -42,11 +48,19 @@ abbrev pub FitsFile : FileContent → Command → HeaderRecord → StorageState 
 FitsFile file command header state = OnFile file (OnImage state (λ image.
     command_in_file command header file.len image ≡ Ok tt))
 
--- the faults by which a command is refused so, whatever the file: edits by what refuses them in a file of some length, a
--- repair by what refuses a check, or by one from outside
+-- those of edits: by the L1 table's length, by a bad edit in a file of some length, or by tables
+abbrev pub IsEditsFileFault : List DiskEdit → HeaderRecord → Fault → Type 0
+IsEditsFileFault edits header fault = (short_l1_refusal header ≡ Some fault)
+    ⊎ ((len : ℕ) × (option_map BadEdit (first_unfit_in_file len header edits) ≡ Some fault)) ⊎ IsTablesFault header fault
+
+-- those of a repair: by its header, or by tables
+abbrev pub IsRepairFileFault : HeaderRecord → Fault → Type 0
+IsRepairFileFault header fault = (header_refusal header ≡ Some fault) ⊎ IsTablesFault header fault
+
+-- the faults by which a command is refused so, whatever the file: these, or one from outside
 abbrev pub IsFileRefusal : Command → HeaderRecord → Fault → Type 0
-IsFileRefusal (Apply form edits) header fault = (len : ℕ) × (edits_in_file header len edits ≡ Err fault)
-IsFileRefusal (Check Repair) header fault = IsCheckFault header fault ⊎ IsFromOutside fault
+IsFileRefusal (Apply form edits) header fault = IsEditsFileFault edits header fault ⊎ IsFromOutside fault
+IsFileRefusal (Check Repair) header fault = IsRepairFileFault header fault ⊎ IsFromOutside fault
 IsFileRefusal _ header fault = ⊥
 
 -- a command was refused by the length of its image's file: where that is known, because it doesn't go with it, or the fault
@@ -56,7 +70,7 @@ pub record IsRefusedInFile (file : FileContent) (command : Command) (header : He
   pub known : OnFile file (OnImage state (λ image.
       IsFromOutside fault ⊎ (command_in_file command header file.len image ≡ Err fault)))
 
--- how long the file of a command's image is, if that is a regular one, as far as the command asks
+-- how long the file of a command's image is, if it has an end, as far as the command asks
 abbrev pub IsLengthFor : FileContent → Command → Option ℕ → Type 0
 IsLengthFor file (Apply form edits) found = OnFile file (found ≡ Some file.len)
 IsLengthFor file (Check Repair) found = OnFile file (found ≡ Some file.len)
@@ -81,14 +95,20 @@ abbrev pub StopsOrEnds : {O : Type 0} → FileContent → Command → HeaderReco
 StopsOrEnds file command header run = StopsBefore file command header run
     ⊎ (FitsFile file command header run.old × EndsAndFlushes (facts_of command) header run)
 
+-- what is told of what a run came to: where another program came to the image, a call failed for that
+abbrev pub told_beside : Bool → Result Verdict Fault → Result Verdict Fault
+told_beside true (Err Storage) = Err InUse
+told_beside in_use ran = ran
+
 -- a run of a command over a file that was `old`, which is `new` now: the file could not be measured or opened, or its header
--- was looked for, and what the run left of the image is in the file
+-- was looked for, and what the run left of the image is in the file. Nobody else comes to a file that is known
 abbrev pub RunsOnFile : {O : Type 0} → Command → PathFile → PathFile → Result Verdict Fault → (O → OutputBytes) → O → O → Type 0
 RunsOnFile command old new answer contents before after =
     ((answer ≡ Err Storage) × (new.content ≡ old.content) × OnFile old.content (0 < new.failures) × (after ≡ before))
-    ⊎ ((failures : ℕ) × OnFile new.content (failures ≡ new.failures)
+    ⊎ ((ran : Result Verdict Fault) × (in_use : Bool) × OnFile old.content (in_use ≡ false) × (answer ≡ told_beside in_use ran)
+    × (failures : ℕ) × OnFile new.content (failures ≡ new.failures)
     × AfterHeader (facts_of command) (StopsOrEnds old.content command) (record {
-      answer = answer;
+      answer = ran;
       old = state_over old.content 0;
       new = state_over new.content failures;
       contents = contents;

@@ -1,6 +1,6 @@
 //! The command `apply`: edits of ranges of the guest's disk, with the counters of clusters.
 
-ghost use Rattle.std.specs.Prelude.{◌≡◌, IfOk, false, map, not, string_bytes};
+ghost use Rattle.std.specs.Prelude.{◌≡◌, ◌++◌, IfOk, false, map, not, string_bytes};
 ghost use Rattle.qcow2_base.specs.Storage.{OnImage, OnImages, OnlyReads};
 ghost use Rattle.qcow2_metadata.specs.Header.{HeaderRecord};
 ghost use Rattle.qcow2_check.specs.Failures.{ReportsFailures};
@@ -12,7 +12,7 @@ ghost use Rattle.qcow2_session.specs.Commands.Words.{Parses};
 
 use super::Command;
 use super::words::{Arguments, FromWord, number, parts};
-use crate::lines::{LineBuffer, ToLine, print_lines};
+use crate::lines::{LineBuffer, ToLine, print, print_lines};
 use qcow2_apply::{ChangedClusters, GuestEdit, KeptCluster, Plan, apply_edits};
 use qcow2_base::{Fault, GuestOffset, HostCluster, Storage};
 use qcow2_metadata::Header;
@@ -69,8 +69,10 @@ impl DiskEdit {
     }
 }
 
-/// Makes edits of the disk of an image with this header, or plans them, and prints what becomes of clusters:
-/// those that are free then, those that lost a reference and have others, and those that gained one.
+/// Makes edits of the disk of an image with this header, or plans them, and prints what becomes of
+/// clusters: those that are free then, those that lost a reference and have others, and those that gained
+/// one. A plan ends with the number of bitmaps that agree with the disk, if there are such: the edits make
+/// them stale.
 ///
 /// Returns the faults of `apply_edits`, before any line. 35 comes before a byte changes, and so do all but 34
 /// where no cluster is that of two tables or blocks, or the header's. A failed write to `out` is the storage
@@ -88,9 +90,20 @@ pub fn edit_disk<S: Storage, O: Write>(
     ensures last { PrintsLast (run_over S.state O.contents result image.old image.new out.old out.new) }
     ensures unchanged { makes_edits form ≡ false → (S.state image.new).byte_at ≡ (S.state image.old).byte_at }
 {
+    let bitmaps = stale_bitmaps(form, &header);
     let edits = guest_edits(alloc, &header, edits)?;
     let clusters = changed_clusters(alloc, image, header, form, edits.as_slice())?;
-    print_clusters(&clusters, out)
+    print_changes(&clusters, bitmaps, out)
+}
+
+// How many bitmaps edits of a disk make stale, where they are planned, if there are such.
+fn stale_bitmaps(form: ApplyForm, header: &Header) -> Option<u32>
+    ensures { result ≡ spec.stale_bitmaps form header.now }
+{
+    match form {
+        ApplyForm::Make => None,
+        ApplyForm::Plan => header.consistent_bitmaps(),
+    }
 }
 
 // What becomes of clusters by edits of a disk, which are made or planned.
@@ -174,6 +187,33 @@ fn guest_edits(
             { edit.guest_edit(cluster_size) },
         )
         .collect(alloc)
+}
+
+// Prints what becomes of clusters, and then how many bitmaps become stale.
+fn print_changes<O: Write>(
+    clusters: &ChangedClusters,
+    bitmaps: Option<u32>,
+    out: &mut O,
+) -> Result<(), Fault>
+    ensures { PrintsText result (O.contents out.old) (O.contents out.new)
+        (spec.changed_lines clusters.now ++ spec.bitmaps_line bitmaps) }
+{
+    print_clusters(clusters, out)?;
+    print_bitmaps(bitmaps, out)
+}
+
+// Prints how many bitmaps become stale, if any do.
+fn print_bitmaps<O: Write>(bitmaps: Option<u32>, out: &mut O) -> Result<(), Fault>
+    ensures { PrintsText result (O.contents out.old) (O.contents out.new) (spec.bitmaps_line bitmaps) }
+{
+    let Some(count) = bitmaps else {
+        return Ok(());
+    };
+    let mut line = LineBuffer::new();
+    line.prepend("\n");
+    line.prepend_decimal(count as u64);
+    line.prepend("stale-bitmaps ");
+    print(line.as_bytes(), out)
 }
 
 // Prints what becomes of clusters.

@@ -7,9 +7,9 @@ ghost use Rattle.qcow2_check.specs.Findings.{IsFindingsOf, MovesFindings, tables
 ghost use Rattle.qcow2_check.specs.Flags.{IsFlagsOf, flags_left};
 ghost use Rattle.qcow2_session.specs.Commands.Check.{EndsCheck, HasVerdict, PrintsLines, PrintsReport, RepairsAndChecks, check_command, checked_report, prints_early, repairs, report_on};
 ghost use Rattle.qcow2_session.specs.Commands.Check.Json.{checked_object};
-ghost use Rattle.qcow2_session.specs.Commands.Check.Lines.{flag_line, run_lines, totals_line};
+ghost use Rattle.qcow2_session.specs.Commands.Check.Lines.{end_lines, flag_line, run_lines};
 ghost use Rattle.qcow2_session.specs.Commands.Check.Runs.{runs_left};
-ghost use Rattle.qcow2_session.specs.Commands.Check.Totals.{run_totals, verdict_of, with_flags};
+ghost use Rattle.qcow2_session.specs.Commands.Check.Totals.{run_totals, verdict_in, with_flags};
 ghost use Rattle.qcow2_session.specs.Commands.Printing.{Prints, PrintsLast, PrintsText, run_over};
 ghost use Rattle.qcow2_session.specs.Commands.Words.{Parses};
 
@@ -48,8 +48,8 @@ pub enum CheckForm {
 
 /// Prints what is wrong with the counters and flags of an image with this header, and returns what is to be
 /// thought of it. First come the clusters whose counter isn't their number of uses, or whose uses exclude
-/// each other: a line for each run of neighbours with the same numbers. Then come the wrong flags, and last
-/// the totals, or that the image is consistent.
+/// each other: a line for each run of neighbours with the same numbers. Then come the wrong flags, then an L1
+/// table that is too short for the disk, and last the totals, or that the image is consistent.
 ///
 /// Returns the fault of `Findings::new` before any line. A fault after a line is 34 or 35. A failed write to
 /// `out` is the storage fault. Changes no byte of the image.
@@ -64,7 +64,7 @@ pub fn check_image<S: Storage, O: Write>(
     ensures storage { ReadsFor (IsErrOf result StorageFailed) (S.state image.old) (S.state image.new) }
 {
     let findings = Findings::new(alloc, image, header)?;
-    print_report(findings, image, out)
+    print_report(findings, image, header, out)
 }
 
 /// Prints what a check finds of an image with this header as one object in JSON, with the name of its file,
@@ -90,7 +90,7 @@ pub fn check_image_in_json<S: Storage, O: Write>(
     let mut out = Output::new(out);
     print_object(file_name, &account, &mut out);
     out.result()?;
-    Ok(account.totals.verdict())
+    Ok(account.totals.verdict(header))
 }
 
 /// Makes the counters and flags of an image with this header right, as `repair_image` does, and then prints
@@ -166,8 +166,10 @@ pub(super) fn parse(
 fn print_report<S: Storage, O: Write>(
     findings: Findings<'_>,
     image: &mut S,
+    header: &Header,
     out: &mut O,
 ) -> Result<Verdict, Fault>
+    requires header { findings.header ≡ header.now }
     requires reader { OnImage (S.state image.old) (λ bytes. IsFindingsOf bytes findings) }
     requires begun { findings.position ≡ 0 }
     ensures prints { PrintsLines (run_over S.state O.contents result image.old image.new out.old out.new)
@@ -180,16 +182,17 @@ fn print_report<S: Storage, O: Write>(
     let totals = print_runs(&mut runs, image, out)?;
     let mut flags = runs.into_findings().into_flags();
     let totals = print_flags(&mut flags, image, totals, out)?;
-    print_totals(&totals, out)
+    print_end(&totals, header, out)
 }
 
-// Prints the last line of a check, and returns the verdict that its totals come to.
-fn print_totals<O: Write>(totals: &Totals, out: &mut O) -> Result<Verdict, Fault>
-    ensures text { PrintsText result (O.contents out.old) (O.contents out.new) (totals_line totals.now) }
-    ensures verdict { IfOk result (λ verdict. verdict ≡ verdict_of totals.now) }
+// Prints the last lines of a check of an image with this header, and returns the verdict.
+fn print_end<O: Write>(totals: &Totals, header: &Header, out: &mut O) -> Result<Verdict, Fault>
+    ensures text { PrintsText result (O.contents out.old) (O.contents out.new)
+        (end_lines header.now totals.now) }
+    ensures verdict { IfOk result (λ verdict. verdict ≡ verdict_in header.now totals.now) }
 {
-    print(totals.line().as_bytes(), out)?;
-    Ok(totals.verdict())
+    print(totals.end_lines(header).as_bytes(), out)?;
+    Ok(totals.verdict(header))
 }
 
 // Prints the runs that a reader comes to yet, and returns how many clusters of each kind they have.

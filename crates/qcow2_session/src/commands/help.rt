@@ -2,7 +2,7 @@
 
 ghost use Rattle.std.specs.Prelude.{◌≡◌, ◌≤◌, map, option_map, string_bytes};
 ghost use Rattle.qcow2_help.specs.CommandTexts.{version_text};
-ghost use Rattle.qcow2_session.specs.Commands.Help.{asked_text, explain_text, help_text, all_rules, first_line_of, rule_of, text_alone, text_of};
+ghost use Rattle.qcow2_session.specs.Commands.Help.{ask_for_help, asked_text, asks_for_help, explain_text, help_text, all_rules, first_line_of, named_text, rule_of, takes_any_name, text_alone, text_of};
 ghost use Rattle.qcow2_session.specs.Commands.Printing.{PrintsText};
 
 use super::words::number;
@@ -28,12 +28,10 @@ impl HelpText {
         let [name, arguments @ ..] = words else {
             return None;
         };
-        match name.as_str() {
-            "help" | "--help" | "-h" => parse_help(arguments),
-            "explain" => parse_explain(arguments),
-            "version" | "--version" => parse_version(arguments),
-            _ => None,
+        if ask_for_help(name.as_str(), arguments) {
+            return command_help(name.as_str()).map(HelpText::Whole);
         }
+        parse_named(name.as_str(), arguments)
     }
 
     /// Prints it.
@@ -44,6 +42,44 @@ impl HelpText {
             HelpText::Whole(text) => print(text.as_bytes(), out),
             HelpText::Rules => print_rules(out),
         }
+    }
+}
+
+// Whether the words after a command's name ask for its help.
+fn ask_for_help(name: &str, arguments: &[String]) -> bool
+    ensures { result ≡ ask_for_help name.now (map string_bytes arguments.now) }
+{
+    match arguments {
+        [word] => asks_for_help(name, word.as_str()),
+        _ => false,
+    }
+}
+
+/// Whether a word alone after a command's name asks for its help. Some commands take any word for an image's
+/// name.
+pub(super) fn asks_for_help(name: &str, word: &str) -> bool
+    ensures { result ≡ asks_for_help name.now word.now }
+{
+    let is_help_word = matches!(word, "--help" | "-h");
+    is_help_word && !takes_any_name(name)
+}
+
+// Whether a command of this name takes any word for an image's name.
+fn takes_any_name(name: &str) -> bool
+    ensures { result ≡ takes_any_name name.now }
+{
+    matches!(name, "info" | "list" | "at" | "edit" | "count" | "l2")
+}
+
+// The text that a name and the words after it ask for, other than by a word for help.
+fn parse_named(name: &str, arguments: &[String]) -> Option<HelpText>
+    ensures { option_map text_of result ≡ named_text name.now (map string_bytes arguments.now) }
+{
+    match name {
+        "help" | "--help" | "-h" => parse_help(arguments),
+        "explain" => parse_explain(arguments),
+        "version" | "--version" => parse_version(arguments),
+        _ => None,
     }
 }
 

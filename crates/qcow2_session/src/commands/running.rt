@@ -7,12 +7,13 @@ ghost use Rattle.qcow2_base.specs.Storage.File.{file_state};
 ghost use Rattle.qcow2_base.specs.Storage.ImageFile.{FileContent};
 ghost use Rattle.qcow2_base.specs.Storage.ImageFiles.{ChangesOne, FailsFor};
 ghost use Rattle.qcow2_base.specs.declared.fault.Fault.TheVariants.{Storage as StorageFailed};
+ghost use Rattle.qcow2_metadata.specs.Results.{Reads};
 ghost use Rattle.qcow2_session.specs.Commands.{AskForNothing, command_by_name, command_of, facts_of, image_name};
 ghost use Rattle.qcow2_session.specs.Commands.Explain.{PrintsExplained, explained_text};
 ghost use Rattle.qcow2_session.specs.Commands.Help.{PrintsAsked, asked_text, text_of};
 ghost use Rattle.qcow2_session.specs.Commands.Printing.{AppendsPart, PrintsLast, run_over};
 ghost use Rattle.qcow2_session.specs.Commands.Report.{Reports, fault_line};
-ghost use Rattle.qcow2_session.specs.Commands.RunningOnFiles.{ComparesWithFile, IsLengthFor, RunsOnFile, RunsWords, StopsOrEnds, edits_in_file};
+ghost use Rattle.qcow2_session.specs.Commands.RunningOnFiles.{ComparesWithFile, IsEditsFileFault, IsLengthFor, IsRepairFileFault, RunsOnFile, RunsWords, StopsOrEnds, edits_in_file, repair_in_file, told_beside};
 ghost use Rattle.qcow2_session.specs.Commands.Running.{AfterHeader, EndsAndFlushes, FindsHeader, IsHeaderFor, Runs};
 ghost use Rattle.qcow2_session.specs.Commands.Verdict.{fine_unless_failed, status_of_verdict};
 ghost use Rattle.qcow2_session.specs.declared.commands.verdict.Verdict.TheVariants.{Fine};
@@ -35,10 +36,11 @@ use super::report::{refuse_words, report_fault};
 use super::tables::print_tables;
 use super::verdict::Verdict;
 use crate::lines::print;
-use crate::refuse_tables_past_end;
 use qcow2_base::{Fault, FileStorage, ImageFile, ImageFiles, Storage};
 use qcow2_buffered::BufferedStorage;
+use qcow2_check::refuse_short_l1;
 use qcow2_metadata::Header;
+use qcow2_repair::{refuse_tables_past_end, refuse_unrepairable};
 use std::alloc::Global;
 use std::io;
 use std::io::Write;
@@ -204,12 +206,15 @@ fn status_of<E: Write>(ran: Result<Verdict, Fault>, err: &mut E) -> u8
 /// Opens the image of a path, for writing where the command may change it, runs the command over it, and
 /// closes it. What it prints is flushed, also before a fault. One that reads all tables reads them in pages.
 ///
-/// Returns 34 where the file can't be opened, or for `apply` and a repair its length can't be had; 35 where
-/// memory runs out for the pages. Where the image's file is a regular one, a repair returns what
-/// `refuse_tables_past_end` does. `apply` returns 32 there and the position of the first edit that doesn't
-/// fit the disk, or maps a cluster past the file's end, if the file has the data. After these nothing is
-/// printed, and the file is as it was, but for what the load of the header wrote. Else it returns what `run`
-/// does, and 34 where the flush fails. No other file changes, unless it is the same one.
+/// Returns 34 where the file can't be opened, or for `apply` and a repair its length can't be had; 35
+/// where memory runs out for the pages. Where the image's file has an end, as a regular file or a block
+/// device, a repair returns what `refuse_unrepairable` and `refuse_tables_past_end` do. `apply` returns 41
+/// there where the L1 table is too short, and if the file has the data 32 and the position of the first
+/// edit that doesn't fit the disk or maps a cluster past the file's end, and then what
+/// `refuse_tables_past_end` does. After these nothing is printed, and the file is as it was, but for what
+/// the load of the header wrote. Else it returns what `run` does, and 34 where the flush fails. No other
+/// file changes, unless it is the same one. Where `files` say that another program came to the image, 39
+/// comes in place of 34: a part of what was asked may be done then.
 pub fn run_on_file<R: ImageFiles, O: Write>(
     alloc: Global,
     files: &mut R,
@@ -227,11 +232,23 @@ pub fn run_on_file<R: ImageFiles, O: Write>(
     let len = length_for(files, path, command)?;
     let image = files.open_image(path, command.changes_image())?;
     let (image, ran) = run_in_file(alloc, image, len, command, out);
+    let told = unless_in_use(ran, files.is_in_use(path));
     files.close_image(path, image);
-    ran
+    told
 }
 
-// How long the file of a path is, if it is a regular one and the command is compared with that.
+// What a run comes to beside other programs: where one has come to the image, a call failed for that.
+fn unless_in_use(ran: Result<Verdict, Fault>, is_in_use: bool) -> Result<Verdict, Fault>
+    ensures told { result ≡ told_beside is_in_use ran }
+    ensures errs { IsErr ran → IsErr result }
+{
+    match ran {
+        Err(Fault::Storage) if is_in_use => Err(Fault::InUse),
+        _ => ran,
+    }
+}
+
+// How long the file of a path is, if it has an end and the command is compared with that.
 fn length_for<R: ImageFiles>(
     files: &mut R,
     path: &str,
@@ -288,8 +305,7 @@ fn run_in_file<F: ImageFile, O: Write>(
     }
 }
 
-// Refuses a command that doesn't go with the length of the image's file, if that is known: what isn't a
-// regular file has no end that is.
+// Refuses a command that doesn't go with the length of the image's file, if that has an end.
 fn compare_with_file<S: Storage>(
     alloc: Global,
     image: &mut S,
@@ -305,26 +321,52 @@ fn compare_with_file<S: Storage>(
         return Ok(());
     };
     match command {
-        Command::Apply { edits, .. } => refuse_far_clusters(header, edits.as_slice(), len),
+        Command::Apply { edits, .. } => {
+            refuse_edits_in_file(alloc, image, len, header, edits.as_slice())
+        }
         Command::Check {
             form: CheckForm::Repair,
-        } => refuse_tables_past_end(alloc, image, header, len),
+        } => refuse_repair_in_file(alloc, image, len, header),
         _ => Ok(()),
     }
 }
 
-// Refuses edits of a disk that map clusters past the end of the image's file, which has this length, by 32
-// and the position of the first that does, or that doesn't fit the disk.
-fn refuse_far_clusters(header: &Header, edits: &[DiskEdit], len: u64) -> Result<(), Fault>
-    ensures { result ≡ edits_in_file header.now len edits.now }
+// Refuses edits of a disk in an image's file of this length: by 41 where the L1 table is too short, by 32 and
+// the position of the first edit that doesn't fit the disk or maps a cluster past the file's end, or by the
+// faults of tables that the file doesn't have. With an external data file the edits are refused later.
+fn refuse_edits_in_file<S: Storage>(
+    alloc: Global,
+    image: &mut S,
+    len: u64,
+    header: &Header,
+    edits: &[DiskEdit],
+) -> Result<(), Fault>
+    ensures reads { Reads (λ done. done) result (edits_in_file edits.now header.now len)
+        (IsEditsFileFault edits.now header.now) (S.state image.old) (S.state image.new) }
 {
+    refuse_short_l1(header)?;
     if header.external_data_file() {
         return Ok(());
     }
-    match first_unfit_in_file(header, edits, len) {
-        Some(position) => Err(Fault::BadEdit(position)),
-        None => Ok(()),
+    if let Some(position) = first_unfit_in_file(header, edits, len) {
+        return Err(Fault::BadEdit(position));
     }
+    refuse_tables_past_end(alloc, image, header, len)
+}
+
+// Refuses a repair in an image's file of this length: by 37 or 41 for what the header says, or by the
+// faults of tables that the file doesn't have.
+fn refuse_repair_in_file<S: Storage>(
+    alloc: Global,
+    image: &mut S,
+    len: u64,
+    header: &Header,
+) -> Result<(), Fault>
+    ensures reads { Reads (λ done. done) result (repair_in_file header.now len)
+        (IsRepairFileFault header.now) (S.state image.old) (S.state image.new) }
+{
+    refuse_unrepairable(header)?;
+    refuse_tables_past_end(alloc, image, header, len)
 }
 
 // Runs a command over an image with its header, and flushes what it printed, also before a fault.

@@ -82,6 +82,49 @@ const PLANNED: &[Run<'static>] = rows! {
     Run { line: "apply IMAGE plan zero:0:512", before: NO_TABLE, ended: NOT_PLACED, after: NO_TABLE, ..RUN },
 };
 
+// An extension that says of three bitmaps where they lie. By the autoclear bit they agree with the disk.
+const BITMAPS: Numbers<'static> = counted! {
+    (0xdf8, 0), (88, 1), (104, 0x2385_2875_0000_0018), (112, 3 << 32), (120, 96), (128, 0x1000),
+};
+
+// The same where they don't by that bit. By the next one an external data file is raw.
+const STALE: Numbers<'static> = counted! {
+    (0xdf8, 0), (88, 2), (104, 0x2385_2875_0000_0018), (112, 3 << 32), (120, 96), (128, 0x1000),
+};
+
+// Another extension, and then one of them with the greatest number.
+const SECOND: Numbers<'static> = counted! {
+    (0xdf8, 0), (88, 3), (104, 0x2385_2876_0000_0004), (112, 1 << 32), (120, 0x2385_2875_0000_0004),
+    (128, 0xffff_ffff_0000_0000),
+};
+
+// One of three bytes, which say no number.
+const CUT: Numbers<'static> = counted! {
+    (0xdf8, 0), (88, 1), (104, 0x2385_2875_0000_0003), (112, 0x0000_0300_0000_0000),
+};
+
+const BITMAPS_DISCARDED: Numbers<'static> = counted! {
+    (0xdf8, 0), (0x418, 0), (0x808, 0x0001_0000_0000_0000), (104, 0x2385_2875_0000_0018), (112, 3 << 32),
+    (120, 96), (128, 0x1000),
+};
+
+const WITH_BITMAPS: &[Run<'static>] = rows! {
+    Run { line: "apply IMAGE plan discard:0x600", before: BITMAPS,
+        ended: Done("freed 5 1\nstale-bitmaps 3\n"),
+        after: BITMAPS, ..RUN },
+    Run { line: "apply IMAGE plan keep:0x600:512", before: BITMAPS, ended: Done("stale-bitmaps 3\n"),
+        after: BITMAPS, ..RUN },
+    Run { line: "apply IMAGE plan discard:0", before: SECOND, ended: Done("stale-bitmaps 4294967295\n"),
+        after: SECOND, ..RUN },
+    Run { line: "apply IMAGE plan discard:0x600", before: STALE, ended: Done(FREED), after: STALE, ..RUN },
+    Run { line: "apply IMAGE plan discard:0x600", before: CUT, ended: Done(FREED), after: CUT, ..RUN },
+    Run { line: "apply IMAGE plan map:0:7", before: BITMAPS, ended: BAD_EDIT, after: BITMAPS, ..RUN },
+    Run { line: "apply IMAGE plan discard:0x600", before: BITMAPS, out: WriteAfter(16),
+        ended: Failed("freed 5 1\nstale-", STORAGE), after: BITMAPS, ..RUN },
+    Run { line: "apply IMAGE discard:0x600", before: BITMAPS, ended: Done(FREED), after: BITMAPS_DISCARDED,
+        ..RUN },
+};
+
 const BAD_EDIT: Ended<'static> = Failed("", "qmeta: fault 32\n");
 
 const NOT_PLACED: Ended<'static> = Failed("", "qmeta: fault 23\n");
@@ -114,6 +157,42 @@ const REFUSED: &[Run<'static>] = rows! {
         after: &[(0, 0)], ..RUN },
 };
 
+// An L1 table that is too short for the disk, and tables past the file's end, by edits of other tables
+// too. The file has seven clusters, or what a row says.
+const BY_FILE: &[Run<'static>] = rows! {
+    Run { line: "apply IMAGE discard:0x600", before: LONG_DISK, ended: SHORT, after: LONG_DISK, ..RUN },
+    Run { line: "apply IMAGE plan discard:0x600", before: LONG_DISK, ended: SHORT, after: LONG_DISK, ..RUN },
+    Run { line: "apply IMAGE map:0:99", before: LONG_DISK, ended: SHORT, after: LONG_DISK, ..RUN },
+    Run { line: "apply IMAGE discard:0x600", before: FAR_TABLE, ended: PLACE, after: FAR_TABLE, ..RUN },
+    Run { line: "apply IMAGE discard:0x8000", before: FAR_TABLE, ended: PLACE, after: FAR_TABLE, ..RUN },
+    Run { line: "apply IMAGE plan discard:0x600", before: FAR_TABLE, ended: PLACE, after: FAR_TABLE, ..RUN },
+    Run { line: "apply IMAGE map:0:99", before: FAR_TABLE, ended: BAD_EDIT, after: FAR_TABLE, ..RUN },
+    Run { line: "apply IMAGE discard:0x600", before: FAR_BLOCK, ended: PLACE, after: FAR_BLOCK, ..RUN },
+    Run { line: "apply IMAGE discard:0x600", before: FAR_AND_SNAPSHOTS, ended: PLACE,
+        after: FAR_AND_SNAPSHOTS, ..RUN },
+};
+
+// A disk of one byte more than the L1 table has.
+const LONG_DISK: Numbers<'static> = counted! { (24, 32769), (0xdf8, 0) };
+
+// The second L2 table is right after the file's end.
+const FAR_TABLE: Numbers<'static> =
+    counted! { (24, 65536), (32, 2), (0x208, COPIED + 0xe00), (0xdf8, 0) };
+
+const FAR_BLOCK: Numbers<'static> = counted! { (0x608, 0x1_0000), (0xdf8, 0) };
+
+const FAR_AND_SNAPSHOTS: Numbers<'static> =
+    counted! { (24, 65536), (32, 2), (60, 1 << 32), (0x208, COPIED + 0xe00), (0xdf8, 0) };
+
+const SHORT: Ended<'static> = Failed("", "qmeta: fault 41\n");
+
+const PLACE: Ended<'static> = Failed("", "qmeta: fault 21\n");
+
+#[test]
+fn edits_of_a_disk_that_the_file_does_not_have_change_nothing(rt: HostRuntime) -> Result<(), Fail> {
+    check_runs(&rt, "not had", BY_FILE)
+}
+
 #[test]
 fn edits_of_a_disk_change_tables_and_counters(rt: HostRuntime) -> Result<(), Fail> {
     check_runs(&rt, "applied", MADE)
@@ -129,6 +208,11 @@ fn edits_of_a_disk_print_what_is_kept_and_stay_where_the_output_fails(
 #[test]
 fn planned_edits_of_a_disk_change_nothing(rt: HostRuntime) -> Result<(), Fail> {
     check_runs(&rt, "planned", PLANNED)
+}
+
+#[test]
+fn planned_edits_of_a_disk_say_how_many_bitmaps_become_stale(rt: HostRuntime) -> Result<(), Fail> {
+    check_runs(&rt, "bitmaps", WITH_BITMAPS)
 }
 
 #[test]

@@ -144,6 +144,25 @@ const USED_AND_FLAGGED: &[Checked] = rows! { Checked:
     { name: "all kinds", before: ALL_KINDS, verdict: Verdict::Harmful, text: ALL_LINES },
 };
 
+// L1 tables that are too short for their disks, or longer.
+const DISKS: &[Checked] = rows! { Checked:
+    { name: "a table longer than needed", before: counted! { TWO_TABLES }, verdict: Verdict::Fine,
+        text: "consistent\n" },
+    { name: "a cluster past the table", before: counted! { (24, 32769) }, verdict: Verdict::Harmful,
+        text: "short-l1 1 2\nleaked 0 missing 0 shared 0 false 0 late 0\n" },
+    { name: "a table that no entry names any more",
+        before: counted! {
+            LARGER, TABLE, DATA, (0xc00 + 504, 0xe00), (COUNTERS_4, 0x0001_0001_0001_0001)
+        }, verdict: Verdict::Harmful,
+        text: "leaked 6 2 1 0\nlate l1 0 2 1\nlate 0x600 5 1\nshort-l1 1 2\n\
+            leaked 2 missing 0 shared 0 false 0 late 2\n" },
+    { name: "no table", before: counted! { (32, 0), (COUNTERS, 0x0001_0000_0000_0001),
+            (COUNTERS_4, 0x0001_0000_0000_0000) }, verdict: Verdict::Harmful,
+        text: "short-l1 0 1\nleaked 0 missing 0 shared 0 false 0 late 0\n" },
+    { name: "the largest disk", before: counted! { (24, u64::MAX) }, verdict: Verdict::Harmful,
+        text: "short-l1 1 562949953421312\nleaked 0 missing 0 shared 0 false 0 late 0\n" },
+};
+
 // The block counts clusters 256 to 511 too, of which none has a use.
 const BLOCK_TWICE: &str = "missing 4 1 1 2\nshared 4 1 1 2\nleaked 256 6 1 0\n\
     leaked 6 missing 1 shared 1 false 0 late 0\n";
@@ -185,7 +204,8 @@ pub(crate) const ALL_LINES: &str =
 #[test]
 fn a_check_prints_what_is_wrong_and_changes_nothing(rt: HostRuntime) -> Result<(), Fail> {
     each(rt.alloc(), counted_rows(), check_checked)?;
-    each(rt.alloc(), used_and_flagged_rows(), check_checked)
+    each(rt.alloc(), used_and_flagged_rows(), check_checked)?;
+    each(rt.alloc(), DISKS, check_checked)
 }
 
 fn counted_rows() -> &'static [Checked] {
@@ -221,7 +241,8 @@ fn verdict_of(
 #[test]
 fn the_program_ends_with_the_status_of_the_verdict(rt: HostRuntime) -> Result<(), Fail> {
     check_statuses(&rt, counted_rows())?;
-    check_statuses(&rt, used_and_flagged_rows())
+    check_statuses(&rt, used_and_flagged_rows())?;
+    check_statuses(&rt, DISKS)
 }
 
 fn check_statuses(rt: &HostRuntime, rows: &[Checked]) -> Result<(), Fail> {

@@ -68,6 +68,10 @@ const TWO: &str = "\"allocated-clusters\": 2";
 
 const THREE: &str = "\"allocated-clusters\": 3";
 
+const SHARED_ONE: &str = "\"shared\": 1";
+
+const FALSE_TWO: &str = "\"false-flags\": 2";
+
 const ONE_APART: &str = "\"fragmented-clusters\": 1";
 
 const END_OF_5: &str = "\"image-end-offset\": 3072";
@@ -87,7 +91,8 @@ const SIZES: &[Row] = rows! {
         verdict: Verdict::Harmful,
         members: &[END_OF_6, CLUSTERS, "\"corruptions\": 1", NO_ERRORS, TWO, DISK, FORMAT], ..ROW },
     Row { name: "no block", before: counted! { (0x600, 0) }, verdict: Verdict::Harmful,
-        members: &[END_OF_5, CLUSTERS, "\"corruptions\": 7", NO_ERRORS, ONE, DISK, FORMAT], ..ROW },
+        members: &[END_OF_5, CLUSTERS, "\"corruptions\": 7", NO_ERRORS, FALSE_TWO, ONE, DISK, FORMAT],
+        ..ROW },
     Row { name: "a header alone", before: &[(24, 0), (32, 0), (40, 0)], verdict: Verdict::Harmful,
         members: &["\"image-end-offset\": 512", "\"corruptions\": 1", NO_ERRORS, DISK, FORMAT], ..ROW },
     Row { name: "the last cluster", before: counted! { (NEXT_ENTRY, LAST) }, verdict: Verdict::Harmful,
@@ -100,8 +105,12 @@ const SIZES: &[Row] = rows! {
     Row { name: "an external data file", before: counted! { EXTERNAL, (COUNTERS_4, 0x0001_0000_0000_0000) },
         members: &["\"image-end-offset\": 2560", CLUSTERS, NO_ERRORS, ONE, DISK, FORMAT], ..ROW },
     // the size of the disk
-    Row { name: "a disk of 65 clusters", before: counted! { (24, 32769) },
+    Row { name: "a disk of 65 clusters", before: counted! { (24, 32769), (32, 2) },
         members: &[END_OF_5, "\"total-clusters\": 65", NO_ERRORS, ONE, DISK, FORMAT], ..ROW },
+    Row { name: "a disk of 65 clusters past the L1 table", before: counted! { (24, 32769) },
+        verdict: Verdict::Harmful,
+        members: &[END_OF_5, "\"total-clusters\": 65", "\"corruptions\": 1", NO_ERRORS, ONE, DISK, FORMAT],
+        ..ROW },
     Row { name: "a disk of size 0", before: counted! { (24, 0) },
         members: &[END_OF_5, NO_ERRORS, ONE, DISK, FORMAT], ..ROW },
 };
@@ -130,14 +139,14 @@ const ENTRIES: &[Row] = rows! {
     // corruptions and leaks
     Row { name: "all kinds", before: ALL_KINDS, verdict: Verdict::Harmful,
         members: &["\"image-end-offset\": 5120", CLUSTERS, "\"corruptions\": 3", NO_ERRORS, "\"leaks\": 3",
-            TWO, DISK, FORMAT, ONE_APART], ..ROW },
+            SHARED_ONE, "\"false-flags\": 1", "\"late-flags\": 1", TWO, DISK, FORMAT, ONE_APART], ..ROW },
     Row { name: "late flags of two tables", before: LATE_TABLES, verdict: Verdict::Harmless,
-        members: &[END_OF_7, "\"total-clusters\": 128", "\"corruptions\": 4", NO_ERRORS, TWO, DISK, FORMAT],
-        ..ROW },
+        members: &[END_OF_7, "\"total-clusters\": 128", "\"corruptions\": 4", NO_ERRORS, "\"late-flags\": 4",
+            TWO, DISK, FORMAT], ..ROW },
     Row { name: "a shared cluster is no corruption",
         before: counted! { (NEXT_ENTRY, 0x200), (COUNTERS, 0x0001_0002_0001_0001) },
         verdict: Verdict::Harmful,
-        members: &[END_OF_5, CLUSTERS, NO_ERRORS, TWO, DISK, FORMAT, ONE_APART], ..ROW },
+        members: &[END_OF_5, CLUSTERS, NO_ERRORS, SHARED_ONE, TWO, DISK, FORMAT, ONE_APART], ..ROW },
 };
 
 const FILE_NAMES: &[Row] = rows! {
@@ -167,13 +176,15 @@ const TABLE_TWICE: Numbers<'static> = counted! {
 /// What the command prints of the image of all kinds, by the word `IMAGE`.
 pub(crate) const ALL_OBJECT: &str =
     "{\n    \"image-end-offset\": 5120,\n    \"total-clusters\": 64,\n    \
-    \"corruptions\": 3,\n    \"check-errors\": 0,\n    \"leaks\": 3,\n    \"allocated-clusters\": 2,\n    \
+    \"corruptions\": 3,\n    \"check-errors\": 0,\n    \"leaks\": 3,\n    \"shared\": 1,\n    \
+    \"false-flags\": 1,\n    \"late-flags\": 1,\n    \"allocated-clusters\": 2,\n    \
     \"filename\": \"IMAGE\",\n    \"format\": \"qcow2\",\n    \"fragmented-clusters\": 1\n}\n";
 
 /// And of that with late flags of two tables.
 pub(crate) const LATE_OBJECT: &str =
     "{\n    \"image-end-offset\": 4096,\n    \"total-clusters\": 128,\n    \
-    \"corruptions\": 4,\n    \"check-errors\": 0,\n    \"allocated-clusters\": 2,\n    \
+    \"corruptions\": 4,\n    \"check-errors\": 0,\n    \"late-flags\": 4,\n    \
+    \"allocated-clusters\": 2,\n    \
     \"filename\": \"IMAGE\",\n    \"format\": \"qcow2\"\n}\n";
 
 #[test]

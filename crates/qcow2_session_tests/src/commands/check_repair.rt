@@ -80,10 +80,11 @@ const REPAIRED: &[Repaired] = rows! {
             LARGER, TWO_TABLES, (NEXT_TABLE, COPIED + 0xc00), (0xc00, 0), (COUNTERS_4, 0x0001_0001_0001_0000)
         }, ..CONSISTENT },
     // and a table without entries, which may lie anywhere
-    Repaired { name: "an empty L1 table past the file's end", before: counted! { (32, 0), (40, 0x1_0000) },
+    Repaired { name: "an empty L1 table past the file's end",
+        before: counted! { (24, 0), (32, 0), (40, 0x1_0000) },
         after: counted! {
-            (32, 0), (40, 0x1_0000), (COUNTERS, 0x0001_0000_0000_0001), (COUNTERS_4, 0x0001_0000_0000_0000),
-            BLOCK_END
+            (24, 0), (32, 0), (40, 0x1_0000), (COUNTERS, 0x0001_0000_0000_0001),
+            (COUNTERS_4, 0x0001_0000_0000_0000), BLOCK_END
         }, ..CONSISTENT },
     // what no block counts stays
     Repaired { name: "no block", before: counted! { TABLE, (REFTABLE, 0) },
@@ -177,6 +178,27 @@ const REFUSED: &[Refused] = rows! { Refused:
         }, reported: OVERLAP },
     { name: "a header without room", before: NO_ROOM, reported: "qmeta: fault 24\n" },
 };
+
+// L1 tables that are too short for their disks, beside what else is refused.
+const SHORT: &[Refused] = rows! { Refused:
+    { name: "a cluster more", before: counted! { AUTOCLEAR, (24, 32769) }, reported: L1_SHORT },
+    { name: "a table that no entry names any more",
+        before: counted! { LARGER, (0xc00 + 504, COPIED + 0xe00), (COUNTERS_4, 0x0001_0001_0001_0001) },
+        reported: L1_SHORT },
+    { name: "and snapshots", before: counted! { (24, 32769), (60, 1 << 32) }, reported: UNCOUNTED },
+    { name: "and a bad L1 entry", before: counted! { (24, 32769), (TABLE_ENTRY, 1) }, reported: L1_SHORT },
+    { name: "and an L2 table past the file's end",
+        before: counted! { (24, 32769), (TABLE_ENTRY, COPIED + 0x1_0000) }, reported: L1_SHORT },
+    { name: "and data in the L1 table", before: counted! { (24, 32769), (NEXT_ENTRY, 0x200) },
+        reported: L1_SHORT },
+};
+
+const L1_SHORT: &str = "qmeta: fault 41\n";
+
+#[test]
+fn a_disk_past_the_l1_table_is_refused(rt: HostRuntime) -> Result<(), Fail> {
+    check_refused(&rt, SHORT)
+}
 
 const OVERLAP: &str = "qmeta: fault 38\n";
 

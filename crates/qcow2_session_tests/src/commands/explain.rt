@@ -132,6 +132,33 @@ const OTHERS: &[Row] = rows! { Row:
         lines: "in IMAGE: refcount table entry 1, bytes at 0x608: 0100000000000000\n" },
 };
 
+// The bits of larger clusters, changes of the sample image with these, and the lines on a bad entry 3 of the
+// second L2 table. It is that of guest cluster 2^(bits - 3) + 3, since a table has a cluster of entries.
+const LARGER: &[(u32, Numbers<'static>, &str)] = rows! {
+    (12, &[(32, 2), (0x1008, COPIED + 0x3000), (0x3018, 2)],
+        "in IMAGE: guest offset 0x203000, L2 entry at 0x3018: 0000000000000002\n"),
+    (16, &[(32, 2), (0x1_0008, COPIED + 0x3_0000), (0x3_0018, 2)],
+        "in IMAGE: guest offset 0x20030000, L2 entry at 0x30018: 0000000000000002\n"),
+    (21, &[(32, 2), (0x20_0008, COPIED + 0x60_0000), (0x60_0018, 2)],
+        "in IMAGE: guest offset 0x8000600000, L2 entry at 0x600018: 0000000000000002\n"),
+};
+
+fn check_larger(
+    alloc: Global,
+    (cluster_bits, before, lines): (u32, Numbers<'static>, &str),
+) -> Result<(), Fail> {
+    let mut image = sample_image(alloc, cluster_bits, before)?;
+    let found = locate_fault(alloc, &mut image, 18, "IMAGE")?;
+    same(found.as_str(), lines, cluster_bits)
+}
+
+#[test]
+fn an_entry_is_at_the_guest_offset_that_clusters_of_its_size_give(
+    rt: HostRuntime,
+) -> Result<(), Fail> {
+    each(rt.alloc(), LARGER, check_larger)
+}
+
 #[test]
 fn a_fault_of_a_header_is_at_its_fields(rt: HostRuntime) -> Result<(), Fail> {
     each(rt.alloc(), FIELDS, check_place)

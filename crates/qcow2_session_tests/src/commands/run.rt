@@ -3,7 +3,8 @@
 use super::whole_images::{RUN, Run, check_run};
 use crate::failing_output::{FailingOutput, Failure};
 use qcow2_session::{Verdict, report_fault, run_words};
-use qcow2_testing::{FAULTS, FaultyFiles, ReportedFault, each, rows, same};
+use qcow2_session_calls::parse_command;
+use qcow2_testing::{FAULTS, FaultyFiles, Opens, ReportedFault, each, rows, same};
 use std::alloc::Global;
 use std::rt::Files;
 use std::test::Fail;
@@ -109,7 +110,7 @@ const NO_COMMANDS: &[&str] = rows! {
     "count IMAGE", "count IMAGE 3 inc:", "count IMAGE 3 add:0", "count IMAGE 3 inc:+1",
     "count IMAGE 3 inc:0:1", "count IMAGE 3 inc:0 discard:0",
     // a fault that there is none of, and words too many
-    "explain 0 IMAGE", "explain 41 IMAGE", "explain x IMAGE", "explain +3 IMAGE", "explain IMAGE",
+    "explain 0 IMAGE", "explain 42 IMAGE", "explain x IMAGE", "explain +3 IMAGE", "explain IMAGE",
     "explain IMAGE 3", "explain 3 IMAGE IMAGE", "Explain 3 IMAGE",
 };
 
@@ -127,6 +128,71 @@ fn words_that_are_no_command_are_the_usage_line(rt: HostRuntime) -> Result<(), F
             ..RUN
         };
         check_run(&rt, "no-command", &run)?;
+    }
+    Ok(())
+}
+
+// Lines that print the help of a command, and what says the same in other words.
+const HELPS: &[(&str, &str)] = rows! {
+    ("map --help", "help map"), ("map -h", "help map"), ("tables --help", "help tables"),
+    ("tables -h", "help tables"), ("layout --help", "help layout"), ("layout -h", "help layout"),
+    ("refcount --help", "help refcount"), ("refcount -h", "help refcount"), ("check --help", "help check"),
+    ("check -h", "help check"), ("apply --help", "help apply"), ("apply -h", "help apply"),
+    ("help --help", "help help"), ("help -h", "help help"), ("explain --help", "help explain"),
+    ("explain -h", "help explain"), ("version --help", "help version"), ("version -h", "help version"),
+};
+
+// No file is opened.
+#[test]
+fn words_for_help_after_a_command_print_its_help(rt: HostRuntime) -> Result<(), Fail> {
+    for (line, help) in HELPS {
+        let mut files = FaultyFiles::new(&rt);
+        let (status, expected, _) = run_line(&mut files, "", *help, NO_FAILURES)?;
+        let expected = std::str::from_utf8(expected.flushed())?;
+        same((status, expected.is_empty()), (0, false), *help)?;
+        check_line(&mut files, "", *line, NO_FAILURES, Ended::Done(expected))?;
+        same(files.opens(), NO_OPENS, *line)?;
+    }
+    Ok(())
+}
+
+const NO_OPENS: Opens = Opens {
+    reading: 0,
+    other: 0,
+};
+
+// Names of commands and of images, and whether they ask for a command of that image with no words more.
+const NAMED: &[(&str, &str, bool)] = rows! {
+    ("info", "--help", true), ("info", "-h", true), ("list", "--help", true), ("list", "-h", true),
+    ("map", "--help", false), ("map", "-h", false), ("map", "-help", true), ("map", "--hel", true),
+    ("tables", "-h", false), ("tables", "./-h", true), ("layout", "--help", false),
+    ("layout", "--helpx", true),
+    ("check", "--help", false), ("check", "-h", false), ("check", "--version", true), ("check", "help", true),
+};
+
+#[test]
+fn words_for_help_are_images_of_some_commands(rt: HostRuntime) -> Result<(), Fail> {
+    each(rt.alloc(), NAMED, check_named)
+}
+
+fn check_named(alloc: Global, (name, image, expected): (&str, &str, bool)) -> Result<(), Fail> {
+    let command = parse_command(alloc, name, image, &[]);
+    same((command.is_some(), image), (expected, image), name)
+}
+
+// With words more, an image may have any name.
+#[test]
+fn a_word_for_help_before_others_is_an_image(rt: HostRuntime) -> Result<(), Fail> {
+    for line in [
+        "check --help json",
+        "apply -h discard:0",
+        "refcount --help 0",
+        "map -h json",
+        "at --help 0",
+    ] {
+        let mut files = FaultyFiles::new(&rt);
+        let no_file = Ended::Failed("", "qmeta: fault 34\n");
+        check_line(&mut files, "", line, NO_FAILURES, no_file)?;
     }
     Ok(())
 }

@@ -48,6 +48,9 @@ object_text name account = codes "{\n" ++ number_line (codes "image-end-offset")
     ++ number_line (codes "total-clusters") account.guest_clusters
     ++ number_line (codes "corruptions") account.corruptions ++ codes "    \"check-errors\": 0,\n"
     ++ number_line (codes "leaks") account.totals.leaked
+    ++ number_line (codes "shared") account.totals.shared
+    ++ number_line (codes "false-flags") account.totals.false_flags
+    ++ number_line (codes "late-flags") account.totals.late_flags
     ++ number_line (codes "allocated-clusters") account.entries.allocated
     ++ file_line name ++ last_lines account.entries.fragmented
 

@@ -1,9 +1,11 @@
 -- What are the lines of a check?
 use Rattle.std.specs.Prelude.{ℕ, if◌then◌else◌, List, [], ◌++◌, Option, Some, None, codes}
 use Rattle.std.specs.Fmt.{decimal}
+use Rattle.qcow2_check.specs.L1Length.{is_l1_short, needed_l1_entries}
 use Rattle.qcow2_check.specs.declared.flags.FlagPlace.{FlagPlace}
 use Rattle.qcow2_check.specs.declared.flags.FlagPlace.TheVariants.{L1Index, Offset}
 use Rattle.qcow2_check.specs.declared.flags.WrongFlag.{WrongFlag}
+use Rattle.qcow2_metadata.specs.Header.{HeaderRecord}
 use Rattle.qcow2_session.specs.Commands.Check.Totals.{is_leaked, is_missing, verdict_of}
 use Rattle.qcow2_session.specs.Lines.{offset_text}
 use Rattle.qcow2_session.specs.declared.commands.check.runs.FindingRun.{FindingRun}
@@ -43,7 +45,7 @@ counts_line totals = codes "leaked " ++ decimal totals.leaked ++ codes " missing
     ++ codes " shared " ++ decimal totals.shared ++ codes " false " ++ decimal totals.false_flags
     ++ codes " late " ++ decimal totals.late_flags ++ codes "\n"
 
--- the last line of a check
+-- the last line of a check, where the L1 table is long enough
 abbrev pub totals_line : Totals → List ℕ
 totals_line totals = by_verdict (verdict_of totals)
   where
@@ -51,3 +53,11 @@ totals_line totals = by_verdict (verdict_of totals)
     by_verdict Fine = codes "consistent\n"
     by_verdict Harmless = counts_line totals
     by_verdict Harmful = counts_line totals
+
+-- the line of an L1 table that is too short for the disk: how many entries it has, and how many the disk needs
+abbrev pub short_l1_line : HeaderRecord → List ℕ
+short_l1_line header = codes "short-l1 " ++ decimal header.v2.l1_size ++ codes " " ++ decimal (needed_l1_entries header) ++ codes "\n"
+
+-- the last lines of a check of an image with this header
+abbrev pub end_lines : HeaderRecord → Totals → List ℕ
+end_lines header totals = if is_l1_short header then short_l1_line header ++ counts_line totals else totals_line totals

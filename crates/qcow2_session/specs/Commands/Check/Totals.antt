@@ -4,9 +4,11 @@ use Rattle.std.specs.List.{sum_by}
 use Rattle.qcow2_base.specs.Storage.{Image}
 use Rattle.qcow2_check.specs.Findings.{image_findings}
 use Rattle.qcow2_check.specs.Flags.{image_flags}
+use Rattle.qcow2_check.specs.L1Length.{is_l1_short}
 use Rattle.qcow2_check.specs.Uses.{ImageTables}
 use Rattle.qcow2_check.specs.declared.findings.Finding.{Finding}
 use Rattle.qcow2_check.specs.declared.flags.WrongFlag.{WrongFlag}
+use Rattle.qcow2_metadata.specs.Header.{HeaderRecord}
 use Rattle.qcow2_metadata.specs.Table.L2Guards.{one_if}
 use Rattle.qcow2_session.specs.Commands.Check.Runs.{runs_of}
 use Rattle.qcow2_session.specs.declared.commands.check.runs.FindingRun.{FindingRun}
@@ -75,3 +77,7 @@ abbrev pub verdict_of : Totals → Verdict
 verdict_of totals =
     if harms_nobody totals then (if totals.leaked == 0 && (totals.late_flags == 0) then Fine else Harmless)
     else Harmful
+
+-- the verdict on an image with this header, of what was found: an L1 table that is too short for the disk hides references
+abbrev pub verdict_in : HeaderRecord → Totals → Verdict
+verdict_in header totals = if is_l1_short header then Harmful else verdict_of totals

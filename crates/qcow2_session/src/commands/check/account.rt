@@ -23,7 +23,7 @@ use std::alloc::Global;
 #[derive(Clone, Copy)]
 pub(super) struct Account {
     pub(super) totals: Totals,
-    /// How many of these QEMU counts as corruptions.
+    /// How many of these are corruptions, as QEMU counts, with an L1 table that is too short for the disk.
     pub(super) corruptions: u64,
     /// Where the image ends, in bytes.
     pub(super) image_end: u64,
@@ -145,7 +145,7 @@ pub(super) fn take_account<S: Storage>(
     let entries = count_entries(alloc, image, header)?;
     Ok(Account {
         totals,
-        corruptions: totals.corruptions()?,
+        corruptions: totals.corruptions(header)?,
         image_end,
         guest_clusters: ClusterCount::from_byte_size(header.size(), header.cluster_bits()).0,
         entries,

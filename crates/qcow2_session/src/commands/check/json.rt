@@ -22,6 +22,9 @@ pub(super) fn print_object<O: Write>(file_name: &str, account: &Account, out: &m
     print_number("corruptions", account.corruptions, out);
     out.print(b"    \"check-errors\": 0,\n");
     print_number("leaks", account.totals.leaked, out);
+    print_number("shared", account.totals.shared, out);
+    print_number("false-flags", account.totals.false_flags, out);
+    print_number("late-flags", account.totals.late_flags, out);
     print_number("allocated-clusters", account.entries.allocated, out);
     print_file_name(file_name, out);
     out.print(last_lines(account.entries.fragmented).as_bytes());

@@ -1,16 +1,17 @@
 //! How much a check finds of each kind.
 
-ghost use Rattle.std.specs.Prelude.{◌≡◌, ◌+◌, IfOk, IsOkUnless, codes};
+ghost use Rattle.std.specs.Prelude.{◌≡◌, ◌+◌, ◌≤◌, IfOk, IsOkUnless, codes, length};
 ghost use Rattle.qcow2_base.specs.declared.fault.Fault.TheVariants.{NoMemory};
-ghost use Rattle.qcow2_session.specs.Commands.Check.Account.{corruptions_of};
-ghost use Rattle.qcow2_session.specs.Commands.Check.Totals.{harms_nobody, verdict_of, with_flag, with_run};
-ghost use Rattle.qcow2_session.specs.Commands.Check.Lines.{counts_line, totals_line};
+ghost use Rattle.qcow2_session.specs.Commands.Check.Account.{corruptions_in};
+ghost use Rattle.qcow2_session.specs.Commands.Check.Totals.{harms_nobody, verdict_in, verdict_of, with_flag, with_run};
+ghost use Rattle.qcow2_session.specs.Commands.Check.Lines.{counts_line, end_lines, totals_line};
 
 use super::runs::FindingRun;
 use crate::Verdict;
 use crate::lines::LineBuffer;
 use qcow2_base::Fault;
-use qcow2_check::WrongFlag;
+use qcow2_check::{WrongFlag, is_l1_short, needed_l1_entries};
+use qcow2_metadata::Header;
 
 /// How many clusters and flags a check found of each kind.
 #[derive(Clone, Copy)]
@@ -69,12 +70,15 @@ impl Totals {
         })
     }
 
-    /// How many of these QEMU counts as corruptions.
-    pub(super) fn corruptions(&self) -> Result<u64, Fault>
+    /// How many of these are corruptions in an image with this header: those that QEMU counts, and one
+    /// more where the L1 table is too short for the disk, of which QEMU opens no image.
+    #[tactic(auto, unfolding(crate::specs::Commands::Check::Account::corruptions_in))]
+    pub(super) fn corruptions(&self, header: &Header) -> Result<u64, Fault>
         ensures fault { IsOkUnless result NoMemory }
-        ensures sum { IfOk result (λ sum. sum ≡ corruptions_of self.now) }
+        ensures sum { IfOk result (λ sum. sum ≡ corruptions_in header.now self.now) }
     {
-        sum(sum(self.missing, self.false_flags)?, self.late_flags)
+        let found = sum(sum(self.missing, self.false_flags)?, self.late_flags)?;
+        sum(found, u64::from(is_l1_short(header)))
     }
 
     // Whether nothing was found that may destroy data.
@@ -84,8 +88,8 @@ impl Totals {
         self.missing == 0 && self.shared == 0 && self.false_flags == 0
     }
 
-    /// What is to be thought of the image.
-    pub(super) fn verdict(&self) -> Verdict
+    // What is to be thought of an image of which this was found, whatever its header says.
+    fn found_verdict(&self) -> Verdict
         ensures { result ≡ verdict_of self.now }
     {
         if !self.harms_nobody() {
@@ -97,11 +101,38 @@ impl Totals {
         }
     }
 
-    /// The last line of a check.
-    pub(super) fn line(&self) -> LineBuffer
+    /// What is to be thought of an image with this header. An L1 table that is too short for the disk hides
+    /// references, so what seems to be leaked may be in use.
+    pub(super) fn verdict(&self, header: &Header) -> Verdict
+        ensures { result ≡ verdict_in header.now self.now }
+    {
+        if is_l1_short(header) {
+            return Verdict::Harmful;
+        }
+        self.found_verdict()
+    }
+
+    /// The last lines of a check of an image with this header.
+    pub(super) fn end_lines(&self, header: &Header) -> LineBuffer
+        ensures { result ≡ end_lines header.now self.now }
+    {
+        if !is_l1_short(header) {
+            return self.line();
+        }
+        let mut lines = self.counts_line();
+        lines.prepend("\n");
+        lines.prepend_decimal(needed_l1_entries(header));
+        lines.prepend(" ");
+        lines.prepend_decimal(header.l1_table_entries() as u64);
+        lines.prepend("short-l1 ");
+        lines
+    }
+
+    // The last line where the L1 table is long enough.
+    fn line(&self) -> LineBuffer
         ensures { result ≡ totals_line self.now }
     {
-        match self.verdict() {
+        match self.found_verdict() {
             Verdict::Fine => consistent_line(),
             Verdict::Harmless => self.counts_line(),
             Verdict::Harmful => self.counts_line(),
@@ -110,7 +141,8 @@ impl Totals {
 
     // How many clusters and flags of each kind there are.
     fn counts_line(&self) -> LineBuffer
-        ensures { result ≡ counts_line self.now }
+        ensures text { result ≡ counts_line self.now }
+        ensures bound { length result ≤ 150 }
     {
         let mut line = LineBuffer::new();
         line.prepend("\n");
