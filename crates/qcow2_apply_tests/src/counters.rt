@@ -95,7 +95,7 @@ fn counters_follow_what_clusters_gained_and_lost(rt: HostRuntime) -> Result<(), 
 }
 
 #[test]
-fn each_refused_call_is_the_storage_fault(rt: HostRuntime) -> Result<(), Fail> {
+fn each_refused_call_is_the_storage_fault_and_the_last(rt: HostRuntime) -> Result<(), Fail> {
     let alloc = rt.alloc();
     let outcome = outcome_of(alloc, &[8], &[(256, 1)])?;
     for refused in 0..64 {
@@ -111,6 +111,7 @@ fn each_refused_call_is_the_storage_fault(rt: HostRuntime) -> Result<(), Fail> {
             );
         }
         same(found, Err(Fault::Storage), refused)?;
+        same(image.calls.len() as u64, refused + 1, refused)?;
     }
     Err(Fail::new("counters make ever more calls"))
 }

@@ -144,7 +144,8 @@ fn check_header(
     same(found.as_str(), expected.as_str(), name)
 }
 
-// Makes edits while the call that comes after some others is refused, and reports whether there was one.
+// Makes edits while the call that comes after some others is refused, and reports whether there was one. No
+// call follows it, for what comes after a refused wait may reach the device before what was waited for.
 fn is_refused(alloc: Global, row: Ordered<'_>, passes: u64) -> Result<bool, Fail> {
     let mut image = recorded(alloc, image_of(alloc, row.before)?);
     let mut header = header_of(alloc, &mut image.inner)?;
@@ -157,6 +158,13 @@ fn is_refused(alloc: Global, row: Ordered<'_>, passes: u64) -> Result<bool, Fail
         Ok(())
     };
     same(found, expected, (row.name, passes))?;
+    if is_refused {
+        same(
+            image.calls.len() as u64,
+            passes.saturating_add(1),
+            (row.name, passes),
+        )?;
+    }
     same(
         first_undercounted(alloc, &mut image.inner)?,
         None,
@@ -176,7 +184,9 @@ fn check_refusals(alloc: Global, row: Ordered<'_>) -> Result<(), Fail> {
 }
 
 #[test]
-fn no_refused_call_leaves_a_counter_below_its_uses(rt: HostRuntime) -> Result<(), Fail> {
+fn a_refused_call_is_the_last_and_leaves_no_counter_below_its_uses(
+    rt: HostRuntime,
+) -> Result<(), Fail> {
     each(rt.alloc(), ORDERED, check_refusals)
 }
 

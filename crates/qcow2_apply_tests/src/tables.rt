@@ -101,7 +101,7 @@ fn edits_of_a_disk_change_its_tables(rt: HostRuntime) -> Result<(), Fail> {
 }
 
 #[test]
-fn each_refused_call_is_the_storage_fault(rt: HostRuntime) -> Result<(), Fail> {
+fn each_refused_call_is_the_storage_fault_and_the_last(rt: HostRuntime) -> Result<(), Fail> {
     let alloc = rt.alloc();
     for refused in 0..64 {
         let mut image = recorded(alloc, small_image(alloc, &[])?);
@@ -116,6 +116,7 @@ fn each_refused_call_is_the_storage_fault(rt: HostRuntime) -> Result<(), Fail> {
             );
         }
         same(found, Err(Fault::Storage), refused)?;
+        same(image.calls.len() as u64, refused + 1, refused)?;
     }
     Err(Fail::new("edits make ever more calls"))
 }

@@ -1,13 +1,15 @@
-//! What a refused call of the storage leaves of a check.
+//! What a refused call of the storage leaves of a check, and that it is the last of a repair.
 
 use crate::sample_image::{
-    COPIED, L1_TABLE, L2_TABLE, Numbers, REFTABLE, findings_of, flags_of, sample_image,
+    BLOCK, COPIED, HEADER, L1_TABLE, L2_TABLE, Numbers, REFTABLE, findings_of, flags_of, repaired,
+    sample_image,
 };
 use qcow2_base::Fault;
-use qcow2_testing::{recorded, same, same_bytes};
+use qcow2_testing::{StorageCall, recorded, same, same_bytes};
+use std::alloc::{AllocError, Global};
 use std::test::Fail;
 
-// More calls of the storage than a check of the sample image makes.
+// More calls of the storage than a check or a repair of the sample image makes.
 const MOST_CALLS: u64 = 64;
 
 // A second L2 table and a second block, and entries with wrong flags whose clusters are of both blocks.
@@ -58,4 +60,76 @@ fn a_reader_of_flags_goes_on_after_a_refused_read(rt: HostRuntime) -> Result<(),
         }
     }
     Err(Fail::new("a reader of flags makes ever more calls"))
+}
+
+// Something for each step of a repair: an autoclear feature, two entries that name cluster 5 with false
+// flags, whose counter is too small, a leaked cluster, and late flags of the L2 table and of cluster 7.
+const TO_REPAIR: Numbers<'static> = &[
+    (HEADER + 88, 1),
+    (L1_TABLE, L2_TABLE),
+    (L2_TABLE + 32, COPIED | 5 << 9),
+    (L2_TABLE + 40, 7 << 9),
+    (BLOCK + 8, 0x0001_0001_0001_0001),
+];
+
+macro_rules! written {
+    ($place:expr, $len:expr) => {
+        StorageCall::Write { offset: $place, len: $len }
+    };
+}
+
+// What a repair of it writes, and where it waits: the header with its end, then false flags, counters that
+// rise, those that fall, and late flags.
+const REPAIRS: &[StorageCall] = &[
+    written!(HEADER, 112),
+    StorageCall::Sync,
+    written!(L2_TABLE, 512),
+    StorageCall::Sync,
+    written!(BLOCK, 512),
+    StorageCall::Sync,
+    written!(BLOCK, 512),
+    StorageCall::Sync,
+    written!(L1_TABLE, 16),
+    written!(L2_TABLE, 512),
+    StorageCall::Sync,
+];
+
+// The calls that write or wait.
+fn writes_of(alloc: Global, calls: &[StorageCall]) -> Result<Vec<StorageCall>, AllocError> {
+    let mut writes = Vec::new(alloc);
+    for call in calls {
+        if !matches!(*call, StorageCall::Read { .. }) {
+            writes.push(*call)?;
+        }
+    }
+    Ok(writes)
+}
+
+#[test]
+fn a_repair_waits_after_each_step(rt: HostRuntime) -> Result<(), Fail> {
+    let alloc = rt.alloc();
+    let mut image = recorded(alloc, sample_image(alloc, TO_REPAIR)?);
+    same(repaired(alloc, &mut image), Ok(()), "repaired")?;
+    let found = writes_of(alloc, image.calls.as_slice())?;
+    same(found.as_slice(), REPAIRS, "writes")
+}
+
+#[test]
+fn no_call_of_a_repair_follows_a_refused_one(rt: HostRuntime) -> Result<(), Fail> {
+    let alloc = rt.alloc();
+    for refused in 0..MOST_CALLS {
+        let mut image = recorded(alloc, sample_image(alloc, TO_REPAIR)?);
+        image.plan = Some(refused);
+        let found = repaired(alloc, &mut image);
+        if image.plan.is_some() {
+            return same(
+                (found, image.calls.len() as u64),
+                (Ok(()), refused),
+                refused,
+            );
+        }
+        same(found, Err(Fault::Storage), refused)?;
+        same(image.calls.len() as u64, refused + 1, refused)?;
+    }
+    Err(Fail::new("a repair makes ever more calls"))
 }
