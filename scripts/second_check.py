@@ -47,6 +47,8 @@ class Tables:
             self.read_header()
             if not has_snapshots and (self.snapshots or self.has_keys):
                 raise Refused(37)
+            if to_repair and self.is_short:
+                raise Refused(41)
             self.l1 = self.entries_at(self.l1_start, self.l1_entries, self.l1_entry)
             blocks = self.entries_at(self.reftable_start, self.reftable_clusters * self.cluster // 8, self.block_entry)
             self.blocks = {entry.index: entry.start for entry in blocks}
@@ -73,6 +75,9 @@ class Tables:
         self.order = header[99] if self.version > 2 else 4
         self.cluster = 1 << self.cluster_bits
         self.counters_each = self.cluster * 8 >> self.order
+        # how many entries the L1 table needs for the disk
+        self.l1_needed = -(-self.size // (self.cluster * (self.cluster // 8)))
+        self.is_short = self.l1_entries < self.l1_needed
 
     def entries_at(self, start, count, read):
         """The entries of a table that aren't 0. Pieces of zeros are passed over at once."""
@@ -210,15 +215,17 @@ class Check:
 
     def printed(self):
         """What the program prints, and then its status where that isn't 0."""
-        if not self.totals:
+        tables = self.tables
+        if not self.totals and not tables.is_short:
             return "consistent\n"
+        short = f"short-l1 {tables.l1_entries} {tables.l1_needed}\n" if tables.is_short else ""
         last = " ".join(f"{kind} {self.totals[kind]}" for kind in KINDS)
-        return f"{self.text}{last}\n{self.status()}"
+        return f"{self.text}{short}{last}\n{self.status()}"
 
     def status(self):
-        if not self.totals:
-            return ""
-        return f"status {4 if HARMFUL & self.totals.keys() else 3}\n"
+        if self.tables.is_short or HARMFUL & self.totals.keys():
+            return "status 4\n"
+        return "status 3\n" if self.totals else ""
 
     def object(self, name):
         """What it prints of an image whose file has this name with the word json, and then its status."""
@@ -229,9 +236,12 @@ class Check:
             "image-end-offset": (last + 1) * tables.cluster,
             "compressed-clusters": counts["compressed"],
             "total-clusters": -(-tables.size // tables.cluster),
-            "corruptions": totals["missing"] + totals["false"] + totals["late"],
+            "corruptions": totals["missing"] + totals["false"] + totals["late"] + tables.is_short,
             "check-errors": 0,
             "leaks": totals["leaked"],
+            "shared": totals["shared"],
+            "false-flags": totals["false"],
+            "late-flags": totals["late"],
             "allocated-clusters": counts["allocated"],
             "filename": name,
             "format": "qcow2",

@@ -1,7 +1,7 @@
 /* Calls each function of zaqulle.h with 200,000 buffers, of random bytes and of headers, tables and images that were changed
  * at random, and compares what comes with a plain reading of the same bytes. Buffers lie at the edge of pages that may not
  * be touched. It ends after a minute at the latest. Usage: fuzz [COUNT [SEED]]. Prints each thing that isn't as it must be,
- * up to twenty, and then how many buffers there were. The status is 1 if one thing wasn't. */
+ * up to twenty, and then how many buffers there were. The status is 1 if one thing wasn't, and 2 if a word is no number. */
 #define _DEFAULT_SOURCE
 #include <inttypes.h>
 #include <stdio.h>
@@ -11,6 +11,8 @@
 #include <time.h>
 
 #include <zaqulle.h>
+
+#include "numbers.h"
 
 enum { PAGE = 65536, ROOM = 4 * PAGE, SECONDS = 60, MOST_SHOWN = 20 };
 
@@ -659,9 +661,12 @@ static void fuzz_image(void) {
 
 int main(int count, char **words) {
     static void (*const parts[])(void) = {fuzz_header, fuzz_table, fuzz_edits, fuzz_block, fuzz_image};
-    uint64_t most = count > 1 ? strtoull(words[1], NULL, 10) : 200000;
+    uint64_t most = 200000;
     time_t begin = time(NULL);
-    seed = count > 2 ? strtoull(words[2], NULL, 10) : 1;
+    if (count > 3 || (count > 1 && !read_number(words[1], &most)) || (count > 2 && !read_number(words[2], &seed))) {
+        fprintf(stderr, "usage: fuzz [COUNT [SEED]], in decimal or hexadecimal after 0x\n");
+        return 2;
+    }
     random_state = seed;
     while (buffers < most && (buffers % 256 != 0 || time(NULL) - begin < SECONDS)) {
         parts[buffers % (sizeof parts / sizeof *parts)]();

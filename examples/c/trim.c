@@ -1,7 +1,7 @@
 /* Discards all guest clusters that lie whole in a range of the guest's disk, and gives back their host clusters. Reads
- * tables and writes them by its own calls. Usage: trim IMAGE OFFSET LENGTH. The status is 1 after a fault, and 2 where
- * something can't be read, written or done by this program. Nobody else may use the image: no lock is taken. A crash or a
- * failure at any time leaves clusters that are lost at most. Build it by
+ * tables and writes them by its own calls. Usage: trim IMAGE OFFSET LENGTH, in bytes. The status is 1 after a fault, and 2
+ * where something can't be read, written or done by this program, or a word is no number. Nobody else may use the image: no
+ * lock is taken. A crash or a failure at any time leaves clusters that are lost at most. Build it by
  * cc -I include examples/c/trim.c crates/qcow2_ffi/out/libzaqulle.a
  * or, where the library is installed, by
  * cc examples/c/trim.c $(pkg-config --cflags --libs zaqulle) */
@@ -13,6 +13,8 @@
 #include <unistd.h>
 
 #include <zaqulle.h>
+
+#include "numbers.h"
 
 enum { LARGEST_CLUSTER = 1 << 21, MOST_ENTRIES = LARGEST_CLUSTER / 8 };
 
@@ -134,11 +136,14 @@ static void trim_table(uint64_t l1_index, uint64_t first, uint64_t end) {
 }
 
 int main(int count, char **words) {
-    if (count != 4 || (image = open(words[1], O_RDWR)) < 0) {
-        stop("can't open the image. Usage: trim IMAGE OFFSET LENGTH");
+    uint64_t offset = 0, length = 0;
+    if (count != 4 || !read_number(words[2], &offset) || !read_number(words[3], &length)) {
+        stop("usage: trim IMAGE OFFSET LENGTH, in bytes, decimal or hexadecimal after 0x");
+    }
+    if ((image = open(words[1], O_RDWR)) < 0) {
+        stop("can't open the image");
     }
     read_header();
-    uint64_t offset = strtoull(words[2], NULL, 0), length = strtoull(words[3], NULL, 0);
     offset = offset < header.size ? offset : header.size;
     length = length < header.size - offset ? length : header.size - offset;
     uint64_t entries = cluster_size / 8, cluster = (offset + cluster_size - 1) / cluster_size;
