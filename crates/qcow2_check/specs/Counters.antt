@@ -10,7 +10,7 @@ use Rattle.qcow2_metadata.specs.Placed.{numbers_at, place_fault}
 use Rattle.qcow2_metadata.specs.Refblock.{BlockState, block_entries, block_geometry_of, block_layout}
 use Rattle.qcow2_metadata.specs.Results.{and_then, unless_refused}
 use Rattle.qcow2_metadata.specs.Table.{IsTableFault, first_fault}
-use Rattle.qcow2_check.specs.NamedTables.{loaded_reftable, named_block, reftable_cluster, reftable_layout}
+use Rattle.qcow2_check.specs.NamedTables.{l1_cluster, l1_layout, loaded_reftable, named_block, reftable_cluster, reftable_layout}
 
 -- how many counters a refcount block has
 abbrev pub counters_each : HeaderRecord → ℕ
@@ -75,3 +75,7 @@ placed_reftable header image = and_then (loaded_reftable header image) (λ refta
 abbrev pub IsReftableFault : HeaderRecord → Fault → Type 0
 IsReftableFault header fault =
     IsTableFault (reftable_layout header) (reftable_cluster header) fault ⊎ (fault ≡ TablePlace)
+
+-- those of the tables that a header names, the L1 table and the refcount table
+abbrev pub IsTablesFault : HeaderRecord → Fault → Type 0
+IsTablesFault header fault = IsTableFault (l1_layout header) (l1_cluster header) fault ⊎ IsReftableFault header fault

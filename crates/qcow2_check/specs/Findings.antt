@@ -8,10 +8,10 @@ use Rattle.qcow2_base.specs.declared.fault.Fault.TheVariants.{Uncounted}
 use Rattle.qcow2_metadata.specs.Entries.{is_among}
 use Rattle.qcow2_metadata.specs.Header.{HeaderRecord, geometry_of, uncounted_part}
 use Rattle.qcow2_metadata.specs.Results.{IsFromOutside, and_then, result_map, unless_refused}
-use Rattle.qcow2_metadata.specs.Table.{IsContentFault, IsTableFault}
+use Rattle.qcow2_metadata.specs.Table.{IsContentFault}
 use Rattle.qcow2_metadata.specs.Table.L2Guards.{one_if}
-use Rattle.qcow2_check.specs.Counters.{CountersState, IsKeptBlockOf, IsReftableFault, counter_of, placed_reftable}
-use Rattle.qcow2_check.specs.NamedTables.{l1_cluster, l1_layout, loaded_l1_table}
+use Rattle.qcow2_check.specs.Counters.{CountersState, IsKeptBlockOf, IsTablesFault, counter_of, placed_reftable}
+use Rattle.qcow2_check.specs.NamedTables.{loaded_l1_table}
 use Rattle.qcow2_check.specs.Tally.{TallyState, ClusterUse, cell_at, cell_with, mark_of}
 use Rattle.qcow2_check.specs.Uses.{ImageTables, all_load, image_uses, uses_of}
 use Rattle.qcow2_check.specs.declared.findings.Finding.{Finding}
@@ -128,8 +128,7 @@ checked_tables header image = unless_refused (option_map Uncounted (uncounted_pa
 
 -- these refusals
 abbrev pub IsCheckFault : HeaderRecord → Fault → Type 0
-IsCheckFault header fault = (option_map Uncounted (uncounted_part header) ≡ Some fault)
-    ⊎ IsTableFault (l1_layout header) (l1_cluster header) fault ⊎ IsReftableFault header fault
+IsCheckFault header fault = (option_map Uncounted (uncounted_part header) ≡ Some fault) ⊎ IsTablesFault header fault
 
 -- a fault after these are refused: it is from outside where the image's bytes are known
 abbrev pub IsLaterFault : StorageState → Fault → Type 0

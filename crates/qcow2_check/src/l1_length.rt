@@ -4,7 +4,7 @@ ghost use Rattle.std.specs.Prelude.{◌≡◌, Ok};
 ghost use Rattle.qcow2_metadata.specs.Results.{unless_refused};
 ghost use Rattle.qcow2_check.specs.L1Length.{is_l1_short, needed_l1_entries, short_l1_refusal};
 
-use qcow2_base::Fault;
+use qcow2_base::{ClusterCount, Fault};
 use qcow2_metadata::Header;
 
 /// How many entries the L1 table needs for the whole disk: one for each L2 table that the disk's clusters
@@ -13,8 +13,8 @@ pub fn needed_l1_entries(header: &Header) -> u64
     ensures { result ≡ needed_l1_entries header.now }
 {
     let cluster_bits = header.cluster_bits();
-    let guest_clusters = header.size().div_ceil(1 << cluster_bits);
-    guest_clusters.div_ceil(1 << (cluster_bits - 3))
+    let guest_clusters = ClusterCount::from_byte_size(header.size(), cluster_bits);
+    guest_clusters.0.div_ceil(1 << (cluster_bits - 3))
 }
 
 /// Whether the L1 table has fewer entries than the disk needs. What the missing entries named, as before a

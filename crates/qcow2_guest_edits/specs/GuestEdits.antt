@@ -1,12 +1,11 @@
 -- Which edits of L2 tables is an edit of a guest's disk?
 use Rattle.std.specs.Prelude.{ℕ, Bool, true, false, not, if◌then◌else◌, Option, None, Some, option_map, ◌+◌, ◌-◌, ◌*◌, ◌/◌, ◌%◌, ◌^◌, ◌==◌, ◌&&◌, nat_lt, nat_le, max, min, List, map, flat_map}
-use Rattle.std.specs.Int.{div_ceil}
 use Rattle.std.specs.List.{list_any, position, range_with_len}
 use Rattle.std.specs.Option.{option_or}
 use Rattle.qcow2_base.specs.declared.fault.Fault.{Fault}
 use Rattle.qcow2_base.specs.declared.fault.Fault.TheVariants.{BadEdit, ExternalData, L1Short, VersionNeeded}
 use Rattle.qcow2_base.specs.declared.types.GuestOffset.{GuestOffset}
-use Rattle.qcow2_check.specs.L1Length.{is_l1_short}
+use Rattle.qcow2_check.specs.L1Length.{guest_clusters, is_l1_short}
 use Rattle.qcow2_edits.specs.declared.edits.Edit.{Edit}
 use Rattle.qcow2_edits.specs.declared.edits.Edit.TheVariants as entry
 use Rattle.qcow2_metadata.specs.Header.{HeaderRecord, geometry_of, uses_external_data}
@@ -58,7 +57,7 @@ is_mappable_by header (Discard offset length) = true
 abbrev pub guest_edit_fits : HeaderRecord → GuestEdit → Bool
 guest_edit_fits header edit = let cb = header.v2.cluster_bits in
     (guest_offset edit).0 % 2 ^ cb == 0 && guest_length cb edit % 2 ^ cb == 0 && nat_lt (first_cluster cb edit) (cluster_end cb edit)
-    && nat_le (cluster_end cb edit) (div_ceil header.v2.size (2 ^ cb)) && is_mappable_by header edit
+    && nat_le (cluster_end cb edit) (guest_clusters header) && is_mappable_by header edit
 
 -- the position of the first edit that can't be made of a disk of this header, if there is one
 abbrev pub first_unfit_of : HeaderRecord → List GuestEdit → Option ℕ

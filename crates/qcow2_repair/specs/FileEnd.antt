@@ -1,5 +1,5 @@
 -- Does the file of an image have the tables and refcount blocks that the image names?
-use Rattle.std.specs.Prelude.{ℕ, ◌+◌, ◌*◌, ◌^◌, nat_le, Bool, true, ◌==◌, ◌&&◌, ◌||◌, ◌⊎◌, if◌then◌else◌, List, Option, Some, None, Result, Ok, Err}
+use Rattle.std.specs.Prelude.{ℕ, ◌+◌, ◌*◌, ◌^◌, nat_le, Bool, true, ◌==◌, ◌&&◌, ◌||◌, if◌then◌else◌, List, Option, Some, None, Result, Ok, Err}
 use Rattle.std.specs.Int.{div_ceil}
 use Rattle.std.specs.List.{list_all}
 use Rattle.qcow2_base.specs.Storage.{Image}
@@ -8,9 +8,7 @@ use Rattle.qcow2_base.specs.declared.fault.Fault.TheVariants.{TablePlace}
 use Rattle.qcow2_base.specs.declared.types.HostCluster.{HostCluster}
 use Rattle.qcow2_metadata.specs.Header.{HeaderRecord}
 use Rattle.qcow2_metadata.specs.Results.{and_then}
-use Rattle.qcow2_metadata.specs.Table.{IsTableFault}
-use Rattle.qcow2_check.specs.Counters.{IsReftableFault}
-use Rattle.qcow2_check.specs.NamedTables.{l1_cluster, l1_layout, loaded_l1_table, loaded_reftable, named_block, named_cluster, reftable_cluster}
+use Rattle.qcow2_check.specs.NamedTables.{l1_cluster, loaded_l1_table, loaded_reftable, named_block, named_cluster, reftable_cluster}
 use Rattle.qcow2_check.specs.Uses.{ImageTables, image_tables}
 
 -- whether a file of that many clusters, the last of which may be cut, has that many clusters from one on
@@ -47,7 +45,3 @@ tables_in_file file_length header image = and_then (loaded_l1_table header image
     and_then (loaded_reftable header image) (λ reftable.
     let file = div_ceil file_length (2 ^ header.v2.cluster_bits) in
     if has_all_tables file (image_tables header l1 reftable) then Ok tt else Err TablePlace))
-
--- these refusals
-abbrev pub IsTablesFault : HeaderRecord → Fault → Type 0
-IsTablesFault header fault = IsTableFault (l1_layout header) (l1_cluster header) fault ⊎ IsReftableFault header fault

@@ -3,8 +3,9 @@
 ghost use Rattle.std.specs.Prelude.{◌≡◌};
 ghost use Rattle.qcow2_metadata.specs.Header.{geometry_of};
 ghost use Rattle.qcow2_metadata.specs.Results.{Reads};
+ghost use Rattle.qcow2_check.specs.Counters.{IsTablesFault};
 ghost use Rattle.qcow2_check.specs.Uses.{image_tables};
-ghost use Rattle.qcow2_repair.specs.FileEnd.{IsTablesFault, has_all_tables, has_blocks, has_clusters, has_header_tables, has_l2_tables, has_named, tables_in_file};
+ghost use Rattle.qcow2_repair.specs.FileEnd.{has_all_tables, has_blocks, has_clusters, has_header_tables, has_l2_tables, has_named, tables_in_file};
 
 use qcow2_base::{ClusterCount, Fault, HostCluster, Storage};
 use qcow2_check::{load_l1_table, load_reftable, named_block, named_cluster};

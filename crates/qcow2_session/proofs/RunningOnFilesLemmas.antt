@@ -73,7 +73,7 @@ pub bad-edit : (edits : List DiskEdit) (header : HeaderRecord) (len position : �
 bad-edit edits header len position state long inside unfit =
     let none = unrefused (short_l1_refusal header) long in
     refused-unread (λ done. done) (BadEdit position) (edits_in_file edits header len) (IsEditsFileFault edits header) state
-    (λ bytes. rw (none, inside, unfit) refl) (inr (inl (len, ap (option_map BadEdit) unfit))) (λ is. grind (arith, is))
+    (λ bytes. rw (none, inside, unfit) refl) (inr (inl (len, ap (option_map BadEdit) unfit, inside))) (λ is. grind (arith, is))
 
 -- and a header by which an image can't be repaired
 pub bad-header : (header : HeaderRecord) (len : ℕ) (fault : Fault) (state : StorageState) → unless_refused (header_refusal header) (Ok (tt {0})) ≡ Err fault

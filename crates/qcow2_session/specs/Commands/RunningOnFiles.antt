@@ -7,10 +7,11 @@ use Rattle.qcow2_base.specs.Storage.ImageFile.{FileContent, OnFile}
 use Rattle.qcow2_base.specs.Storage.ImageFiles.{ChangesOne, PathFile}
 use Rattle.qcow2_base.specs.declared.fault.Fault.{Fault}
 use Rattle.qcow2_base.specs.declared.fault.Fault.TheVariants.{BadEdit, InUse, NoMemory, Storage}
+use Rattle.qcow2_check.specs.Counters.{IsTablesFault}
 use Rattle.qcow2_check.specs.L1Length.{short_l1_refusal}
 use Rattle.qcow2_metadata.specs.Header.{HeaderRecord, uses_external_data}
 use Rattle.qcow2_metadata.specs.Results.{IsFromOutside, unless_refused}
-use Rattle.qcow2_repair.specs.FileEnd.{IsTablesFault, tables_in_file}
+use Rattle.qcow2_repair.specs.FileEnd.{tables_in_file}
 use Rattle.qcow2_repair.specs.Refusals.{header_refusal}
 use Rattle.qcow2_session.specs.Commands.{facts_of}
 use Rattle.qcow2_session.specs.Commands.Apply.{first_unfit_in_file}
@@ -48,10 +49,12 @@ abbrev pub FitsFile : FileContent → Command → HeaderRecord → StorageState 
 FitsFile file command header state = OnFile file (OnImage state (λ image.
     command_in_file command header file.len image ≡ Ok tt))
 
--- those of edits: by the L1 table's length, by a bad edit in a file of some length, or by tables
+-- those of edits: by the L1 table's length, by an edit that doesn't go with a file of some length that holds the clusters
+-- itself, or by tables
 abbrev pub IsEditsFileFault : List DiskEdit → HeaderRecord → Fault → Type 0
 IsEditsFileFault edits header fault = (short_l1_refusal header ≡ Some fault)
-    ⊎ ((len : ℕ) × (option_map BadEdit (first_unfit_in_file len header edits) ≡ Some fault)) ⊎ IsTablesFault header fault
+    ⊎ ((len : ℕ) × (option_map BadEdit (first_unfit_in_file len header edits) ≡ Some fault) × (uses_external_data header ≡ false))
+    ⊎ IsTablesFault header fault
 
 -- those of a repair: by its header, or by tables
 abbrev pub IsRepairFileFault : HeaderRecord → Fault → Type 0
