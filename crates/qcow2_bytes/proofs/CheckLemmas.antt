@@ -1,38 +1,28 @@
 use Rattle.std.proofs.lemmas.Bool.Decides.{nat_tests}
-use Rattle.std.proofs.Common.{◌≡◌, ◌≢◌, ◌⊎◌, ◌≤◌, ◌*◌, ℕ, false, not, List, [], ◌∷◌, ◌++◌, drop, length, map, set, take, IsTrue, Option, Some, None, option_map, Result, Ok, Err, inl, inr, refl, sym, ap, subst, ◌∙◌, append-nil, append_assoc, arith}
+use Rattle.std.proofs.Common.{◌≡◌, ◌≢◌, ◌⊎◌, ◌≤◌, ◌*◌, ℕ, ◌+◌, false, List, [], ◌∷◌, ◌++◌, drop, length, map, set, take, IsTrue, Option, Some, None, option_map, Result, Ok, Err, inl, inr, refl, sym, ap, subst, ◌∙◌, append-nil, append_assoc, arith}
 use Rattle.std.proofs.lemmas.List.{length-map, length_push, map-append}
-use Rattle.std.proofs.lemmas.List.Sums.{sum_by_push}
 use Rattle.qcow2_base.specs.Fault.{fault_number}
 use Rattle.qcow2_base.specs.Storage.{Image, OnImage, OnlyReads, StorageState}
 use Rattle.qcow2_base.specs.declared.fault.Fault.{Fault}
 use Rattle.qcow2_base.specs.declared.fault.Fault.TheVariants.{NoMemory, Storage, Uncounted}
 use Rattle.qcow2_base.specs.declared.fault.UncountedPart.{UncountedPart}
 use Rattle.qcow2_base.specs.declared.types.HostCluster.{HostCluster}
+use Rattle.qcow2_check.proofs.TotalsLemmas.{items-more, totals-finding}
 use Rattle.qcow2_check.specs.Findings.{FindingsState, IsCheckFault, checked_tables, findings_left, image_findings, tables_of}
 use Rattle.qcow2_check.specs.NamedTables.{l1_cluster, reftable_cluster, reftable_kind}
+use Rattle.qcow2_check.specs.Totals.{finding_totals, with_clusters}
 use Rattle.qcow2_check.specs.Uses.{ImageTables}
 use Rattle.qcow2_check.specs.declared.findings.Finding.{Finding}
-use Rattle.qcow2_check.specs.declared.flags.WrongFlag.{WrongFlag}
+use Rattle.qcow2_check.specs.declared.totals.Totals.{Totals}
 use Rattle.qcow2_metadata.specs.Header.{HeaderRecord, uncounted_part}
 use Rattle.qcow2_metadata.specs.Header.Grammar.{header_of}
 use Rattle.qcow2_metadata.specs.Header.Open.{header_after_load}
 use Rattle.qcow2_metadata.specs.Results.{IsFromOutside}
 use Rattle.qcow2_metadata.specs.Table.{IsTableFault, Kind, l1_kind, l2_entries, table_layout}
-use Rattle.qcow2_metadata.specs.Table.L2Guards.{one_if}
-use Rattle.qcow2_bytes.specs.Images.Check.{AreFirstPut, IsCheckRefusal, PutsFindings, counts_too_few, counts_too_many, finding_fields, finding_totals, tables_at, with_finding, with_wrong_flag, with_wrong_flags}
+use Rattle.qcow2_bytes.specs.Images.Check.{AreFirstPut, IsCheckRefusal, PutsFindings, finding_fields, tables_at}
 use Rattle.qcow2_bytes.specs.declared.images.check.CheckTotals.{CheckTotals}
 use Rattle.qcow2_bytes.specs.declared.images.check.FindingFields.{FindingFields}
 use Rattle.qcow2_bytes.proofs.HeaderLemmas.{read_only}
-
--- what is known of an image's bytes after reads is known of those before
-pub known-earlier : (Fact : Image → Type 0) (old now : StorageState) → now.tells ≡ old.tells → now.byte_at ≡ old.byte_at
-    → OnImage now Fact → OnImage old Fact
-known-earlier Fact old now tells bytes fact = λ told. subst Fact bytes (fact (rw tells told))
-
--- one item more of a list
-pub one-more : {T : Type 0} (all counted left later : List T) (item : T) → all ≡ counted ++ left → left ≡ item ∷ later
-    → all ≡ (counted ++ item ∷ []) ++ later
-one-more all counted left later item are is = are ∙ ap (λ rest. counted ++ rest) is ∙ sym (append_assoc counted (item ∷ []) later)
 
 -- one item more is put, if there is room
 pub first-put-more : {T : Type 0} (items old new : List T) (item : T) → AreFirstPut items old new
@@ -47,47 +37,33 @@ first-put-more {T} items old new item put = rw put (by_items items old)
     by_items (i ∷ is) [] = refl
     by_items (i ∷ is) (x ∷ xs) = ap (λ rest. i ∷ rest) (by_items is xs)
 
--- the totals of one finding more
-totals-more : (counted : List Finding) (finding : Finding)
-    → with_finding (finding_totals counted) finding ≡ finding_totals (counted ++ finding ∷ [])
-totals-more counted finding =
-    let leaked = sum_by_push (λ (f : Finding). one_if (counts_too_many f)) counted finding in
-    let missing = sum_by_push (λ (f : Finding). one_if (counts_too_few f)) counted finding in
-    let shared = sum_by_push (λ (f : Finding). one_if f.shared) counted finding in
-    rw (length_push counted finding, leaked, missing, shared) refl
-
--- the totals of one flag more
-pub flags-more : (totals : CheckTotals) (counted : List WrongFlag) (flag : WrongFlag)
-    → with_wrong_flag (with_wrong_flags totals counted) flag ≡ with_wrong_flags totals (counted ++ flag ∷ [])
-flags-more totals counted flag =
-    let set_flags = sum_by_push (λ (f : WrongFlag). one_if f.is_set) counted flag in
-    let unset = sum_by_push (λ (f : WrongFlag). one_if (not f.is_set)) counted flag in
-    grind (arith, set_flags, unset)
+-- what was counted of some findings: how many they are, and how many of each kind
+abbrev pub Counted : List Finding → ℕ → Totals → Type 0
+Counted findings count totals = (count ≡ length findings) × (totals ≡ finding_totals findings)
 
 -- one finding more is counted and put
-pub findings-more : (all counted left later : List Finding) (finding : Finding) (was is : CheckTotals) (old new list : List FindingFields)
-    → all ≡ counted ++ left → left ≡ finding ∷ later → was ≡ finding_totals counted → is ≡ with_finding was finding
-    → AreFirstPut (map finding_fields counted) old new → list ≡ set new was.findings (finding_fields finding)
-    → (more : List Finding) × (all ≡ more ++ later) × (is ≡ finding_totals more) × AreFirstPut (map finding_fields more) old list
-findings-more all counted left later finding was is old new list are first same next put stored =
-    let more = first-put-more (map finding_fields counted) old new (finding_fields finding) put in
-    let place : was.findings ≡ length counted = ap (λ (totals : CheckTotals). totals.findings) same in (
+pub findings-more : (all counted left later : List Finding) (finding : Finding) (count sum : ℕ) (was is : Totals) (old new list : List FindingFields)
+    → all ≡ counted ++ left → left ≡ finding ∷ later → Counted counted count was → sum ≡ count + 1 → is ≡ with_clusters was finding 1
+    → AreFirstPut (map finding_fields counted) old new → list ≡ set new count (finding_fields finding)
+    → (more : List Finding) × (all ≡ more ++ later) × Counted more sum is × AreFirstPut (map finding_fields more) old list
+findings-more all counted left later finding count sum was is old new list are first same one next put stored =
+    let more = first-put-more (map finding_fields counted) old new (finding_fields finding) put in (
       counted ++ finding ∷ [],
-      one-more all counted left later finding are first,
-      next ∙ ap (λ totals. with_finding totals finding) same ∙ totals-more counted finding,
-      rw (stored, place, map-append finding_fields counted (finding ∷ [])) (rw (length-map counted finding_fields) at more),
+      items-more all counted left later finding are first,
+      (one ∙ ap (λ n. n + 1) same.0 ∙ sym (length_push counted finding), next ∙ ap (λ totals. with_clusters totals finding 1) same.1 ∙ totals-finding counted finding),
+      rw (stored, same.0, map-append finding_fields counted (finding ∷ [])) (rw (length-map counted finding_fields) at more),
     )
 
 -- all are counted and put
-pub all-counted : (reader : FindingsState) (image : Image) (counted left : List Finding) (totals : CheckTotals) (old new : List FindingFields)
-    → reader.position ≡ 0 → left ≡ [] → findings_left reader image ≡ counted ++ left → totals ≡ finding_totals counted
+pub all-counted : (reader : FindingsState) (image : Image) (counted left : List Finding) (count : ℕ) (totals : Totals) (old new : List FindingFields)
+    → reader.position ≡ 0 → left ≡ [] → findings_left reader image ≡ counted ++ left → Counted counted count totals
     → AreFirstPut (map finding_fields counted) old new
-    → (totals ≡ finding_totals (image_findings (tables_of reader) image))
+    → (count ≡ length (image_findings (tables_of reader) image)) × (totals ≡ finding_totals (image_findings (tables_of reader) image))
     × AreFirstPut (map finding_fields (image_findings (tables_of reader) image)) old new
-all-counted reader image counted left totals old new begun none are same put =
+all-counted reader image counted left count totals old new begun none are same put =
     let all : findings_left reader image ≡ image_findings (tables_of reader) image = rw begun refl in
     let whole : image_findings (tables_of reader) image ≡ counted = sym all ∙ are ∙ ap (λ rest. counted ++ rest) none ∙ append-nil counted in
-    rw whole (same, put)
+    rw whole (same.0, same.1, put)
 
 -- what is found after the header was read is what is found of the image
 pub checked-after : (header : HeaderRecord) (before after : List FindingFields) (answer : Result CheckTotals Fault) (old new : StorageState)

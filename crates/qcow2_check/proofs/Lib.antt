@@ -4,4 +4,5 @@ pub mod FindingsListLemmas
 pub mod FlagsLemmas
 pub mod NamedTablesLemmas
 pub mod TallyLemmas
+pub mod TotalsLemmas
 pub mod UsesLemmas

@@ -42,6 +42,14 @@ finding_at tables image c = record {
 abbrev pub is_wrong : Finding → Bool
 is_wrong finding = not (finding.counter == finding.uses) || finding.shared
 
+-- whether the counter of a cluster is greater than its number of uses
+abbrev pub is_leaked : Finding → Bool
+is_leaked finding = nat_lt finding.uses finding.counter
+
+-- whether it is smaller
+abbrev pub is_missing : Finding → Bool
+is_missing finding = nat_lt finding.counter finding.uses
+
 -- what a reader of findings has: the image's header, its L1 table and its counters, the uses of the clusters of a part of
 -- the image where they are counted, and the cluster that it has come to
 pub record FindingsState : Type 0 where

@@ -5,5 +5,7 @@ pub mod Flags
 pub mod L1Length
 pub mod NamedTables
 pub mod Tally
+pub mod Totals
 pub mod Uses
+pub mod Verdict
 pub mod Windows

@@ -6,7 +6,7 @@ ghost use Rattle.qcow2_base.specs.Storage.{OnImage, OnlyReads};
 ghost use Rattle.qcow2_metadata.specs.Header.{geometry_of};
 ghost use Rattle.qcow2_metadata.specs.Results.{IsFromOutside, Reads};
 ghost use Rattle.qcow2_metadata.specs.Table.{IsEntryFault};
-ghost use Rattle.qcow2_check.specs.Findings.{CountsAll, is_wrong};
+ghost use Rattle.qcow2_check.specs.Findings.{CountsAll, is_leaked, is_missing, is_wrong};
 ghost use Rattle.qcow2_check.specs.Tally.{cell_at, is_shared_cell};
 ghost use Rattle.qcow2_check.specs.Uses.{all_load, image_tables};
 
@@ -42,6 +42,20 @@ impl Finding {
         ensures { result ≡ is_wrong self.now }
     {
         self.counter != self.uses || self.shared
+    }
+
+    /// Whether the counter is greater than the number of uses.
+    pub fn is_leaked(&self) -> bool
+        ensures { result ≡ is_leaked self.now }
+    {
+        self.uses < self.counter
+    }
+
+    /// Whether it is smaller.
+    pub fn is_missing(&self) -> bool
+        ensures { result ≡ is_missing self.now }
+    {
+        self.counter < self.uses
     }
 }
 

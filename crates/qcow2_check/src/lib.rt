@@ -8,7 +8,9 @@ mod l1_length;
 mod named_tables;
 pub mod parts;
 mod tally;
+mod totals;
 mod uses;
+mod verdict;
 mod windows;
 
 pub use counters::Counters;
@@ -16,3 +18,5 @@ pub use findings::{Finding, Findings};
 pub use flags::{FlagPlace, Flags, WrongFlag};
 pub use l1_length::{is_l1_short, needed_l1_entries, refuse_short_l1};
 pub use named_tables::{load_l1_table, load_l2_table, load_reftable, named_block, named_cluster};
+pub use totals::Totals;
+pub use verdict::Verdict;

@@ -1,18 +1,17 @@
 use Rattle.std.proofs.lemmas.Bool.Decides.{nat_tests}
 use Rattle.std.proofs.Common.{◌≡◌, ◌⊎◌, ℕ, ◌+◌, not, List, [], ◌∷◌, ◌++◌, flat_map, length, take_all, None, Some, Result, Ok, Err, IsTrue, inl, inr, refl, sym, ap, subst, ◌∙◌, append-nil, append_assoc, arith}
-use Rattle.std.specs.List.{sum_by}
 use Rattle.std.specs.Result.{IfErr, IfOk, IsErrOf}
 use Rattle.std.specs.Io.KnownBytes.{Appends}
 use Rattle.std.proofs.KnownBytes.{Appends-nil, Appends-trans}
 use Rattle.std.proofs.lemmas.Grind.{flat_map-append}
-use Rattle.std.proofs.lemmas.List.Sums.{sum_by_push}
 use Rattle.qcow2_base.specs.Storage.{Image, IsBytes, OnImage, ReadsFor, StorageState}
 use Rattle.qcow2_base.specs.declared.fault.Fault.{Fault}
 use Rattle.qcow2_base.specs.declared.fault.Fault.TheVariants.{NoMemory, Storage}
+use Rattle.qcow2_check.proofs.TotalsLemmas.{items-more, known-before}
 use Rattle.qcow2_check.specs.Findings.{FindingsState, checked_tables, image_findings, tables_of}
+use Rattle.qcow2_check.specs.Totals.{finding_totals, with_flags}
 use Rattle.qcow2_check.specs.Uses.{ImageTables}
 use Rattle.qcow2_check.specs.declared.flags.WrongFlag.{WrongFlag}
-use Rattle.qcow2_metadata.specs.Table.L2Guards.{one_if}
 use Rattle.qcow2_repair.proofs.CheckableLemmas.{checkable-repaired}
 use Rattle.qcow2_repair.specs.Repair.{IsRepaired, RepairsImage}
 use Rattle.qcow2_session.proofs.OutputLemmas.{part-after, part-of_more, part_taken}
@@ -20,25 +19,16 @@ use Rattle.qcow2_metadata.specs.Header.{HeaderRecord, IsValidHeader}
 use Rattle.qcow2_metadata.specs.Results.{IsFromOutside, result_map}
 use Rattle.qcow2_session.proofs.PrintingLemmas.{run_between}
 use Rattle.qcow2_session.specs.Commands.Check.{PrintsLines, PrintsReport, checked_report, lines_of, report_on}
-use Rattle.qcow2_session.specs.Commands.Check.Runs.{RunsState, runs_of, runs_left}
-use Rattle.qcow2_session.specs.Commands.Check.Totals.{clusters_of, is_leaked, is_missing, has_exclusive_uses, run_totals, with_flag, with_flags, with_run}
+use Rattle.qcow2_session.specs.Commands.Check.Runs.{RunsState, all_left, runs_left, runs_of}
 use Rattle.qcow2_session.specs.Commands.Printing.{AppendsPart, OutputBytes, PrintsText}
-use Rattle.qcow2_session.specs.declared.commands.check.runs.FindingRun.{FindingRun}
-use Rattle.qcow2_session.specs.declared.commands.verdict.Verdict.{Verdict}
-use Rattle.qcow2_session.specs.declared.commands.check.totals.Totals.{Totals}
-
--- what is known of an image's bytes after reads is known of those before
-pub known-before : (Fact : Image → Type 0) (old now : StorageState) → now.tells ≡ old.tells → now.byte_at ≡ old.byte_at → OnImage now Fact → OnImage old Fact
-known-before Fact old now tells bytes fact = λ told. subst Fact bytes (fact (rw tells told))
+use Rattle.qcow2_check.specs.declared.verdict.Verdict.{Verdict}
+use Rattle.qcow2_check.specs.declared.totals.Totals.{Totals}
 
 -- all of some bytes are a beginning of them
 pub part-of_all : (a b : OutputBytes) (bytes : List ℕ) → Appends a b bytes → AppendsPart a b bytes
 part-of_all a b bytes all = part_taken a b bytes (length bytes) (subst (λ xs. Appends a b xs) (sym (take_all (length bytes) bytes (omega arith))) all)
 
--- one item more
-pub items-more : {T : Type 0} (all printed left later : List T) (item : T) → all ≡ printed ++ left → left ≡ item ∷ later → all ≡ (printed ++ item ∷ []) ++ later
-items-more all printed left later item are is = are ∙ ap (λ rest. printed ++ rest) is ∙ sym (append_assoc printed (item ∷ []) later)
-
+-- the line of one item more
 pub lines-more : {T : Type 0} (line : T → List ℕ) (printed : List T) (item : T) (a b c : OutputBytes) → Appends a b (flat_map line printed) → Appends b c (line item)
     → Appends a c (flat_map line (printed ++ item ∷ []))
 lines-more line printed item a b c before here =
@@ -61,21 +51,6 @@ lines-failed line all printed left later item a b c are is before failed =
 pub lines-all : {T : Type 0} (line : T → List ℕ) (all printed left : List T) (a b : OutputBytes) → all ≡ printed ++ left → left ≡ [] → Appends a b (flat_map line printed)
     → Appends a b (flat_map line all)
 lines-all line all printed left a b are none before = rw (are, none, append-nil printed) before
-
--- the totals of one run more
-pub totals-run : (printed : List FindingRun) (run : FindingRun) → with_run (run_totals printed) run ≡ run_totals (printed ++ run ∷ [])
-totals-run printed run = rw (sum_by_push (clusters_of is_leaked) printed run, sum_by_push (clusters_of is_missing) printed run, sum_by_push (clusters_of has_exclusive_uses) printed run) refl
-
--- the totals of one flag more
-pub totals-flag : (totals : Totals) (printed : List WrongFlag) (flag : WrongFlag) → with_flag (with_flags totals printed) flag ≡ with_flags totals (printed ++ flag ∷ [])
-totals-flag totals printed flag =
-    let set = sum_by_push (λ (f : WrongFlag). one_if f.is_set) printed flag in
-    let unset = sum_by_push (λ (f : WrongFlag). one_if (not f.is_set)) printed flag in
-    let false_flags : totals.false_flags + sum_by (λ (f : WrongFlag). one_if f.is_set) printed + one_if flag.is_set
-    ≡ totals.false_flags + (sum_by (λ (f : WrongFlag). one_if f.is_set) printed + one_if flag.is_set) = omega arith in
-    let late_flags : totals.late_flags + sum_by (λ (f : WrongFlag). one_if (not f.is_set)) printed + one_if (not flag.is_set)
-    ≡ totals.late_flags + (sum_by (λ (f : WrongFlag). one_if (not f.is_set)) printed + one_if (not flag.is_set)) = omega arith in
-    rw (set, unset, false_flags, late_flags) refl
 
 -- a print of lines, and then of more
 pub lines-then : {A B O : Type 0} (first : A) (answer : Result B Fault) (f g : Image → List ℕ) (contents : O → OutputBytes) (old mid new : StorageState) (a b c : O)
@@ -118,22 +93,26 @@ lines-as (Err fault) f g contents old new a b same prints = record {
   part = λ told. let part = prints.part told in (part.0, subst (λ bytes. AppendsPart (contents a) (contents b) bytes) same part.1);
 }
 
--- the runs that a reader of runs comes to from the image's begin
+-- the findings and the runs that a reader of runs comes to from the image's begin
+pub all-begin : (reader : RunsState) (findings : FindingsState) (image : Image) → reader ≡ record { findings = findings; ahead = None } → findings.position ≡ 0
+    → all_left reader image ≡ image_findings (tables_of findings) image
+all-begin reader findings image is begun = rw (is, begun) refl
+
 pub runs-begin : (reader : RunsState) (findings : FindingsState) (image : Image) → reader ≡ record { findings = findings; ahead = None } → findings.position ≡ 0
     → runs_left reader image ≡ runs_of (image_findings (tables_of findings) image)
-runs-begin reader findings image is begun = rw (is, begun) refl
+runs-begin reader findings image is begun = ap runs_of (all-begin reader findings image is begun)
 
--- what the totals of runs and then of flags mean, after the reads
-pub totals-mean : (first last : Totals) (runs : Image → List FindingRun) (flags : Image → List WrongFlag) (old mid new : StorageState)
+-- what the totals of findings and then of flags mean, after the reads
+pub totals-mean : (first last : Totals) (tables : ImageTables) (flags : Image → List WrongFlag) (old mid new : StorageState)
     → mid.tells ≡ old.tells → mid.byte_at ≡ old.byte_at → new.tells ≡ mid.tells → new.byte_at ≡ mid.byte_at
-    → OnImage old (λ bytes. first ≡ run_totals (runs bytes)) → OnImage mid (λ bytes. last ≡ with_flags first (flags bytes))
-    → OnImage new (λ bytes. last ≡ with_flags (run_totals (runs bytes)) (flags bytes))
-totals-mean first last runs flags old mid new tells bytes later_tells later_bytes one other = λ told.
+    → OnImage old (λ bytes. first ≡ finding_totals (image_findings tables bytes)) → OnImage mid (λ bytes. last ≡ with_flags first (flags bytes))
+    → OnImage new (λ bytes. last ≡ with_flags (finding_totals (image_findings tables bytes)) (flags bytes))
+totals-mean first last tables flags old mid new tells bytes later_tells later_bytes one other = λ told.
     let known : IsTrue old.tells = rw (later_tells, tells) at told in
-    let both : last ≡ with_flags (run_totals (runs old.byte_at)) (flags old.byte_at) =
+    let both : last ≡ with_flags (finding_totals (image_findings tables old.byte_at)) (flags old.byte_at) =
     known-before (λ image. last ≡ with_flags first (flags image)) old mid tells bytes other known
     ∙ ap (λ t. with_flags t (flags old.byte_at)) (one known) in
-    subst (λ image. last ≡ with_flags (run_totals (runs image)) (flags image)) (sym (later_bytes ∙ bytes)) both
+    subst (λ image. last ≡ with_flags (finding_totals (image_findings tables image)) (flags image)) (sym (later_bytes ∙ bytes)) both
 
 -- reads and prints that returned a value, and then others
 pub reads_for-twice : {A told : Type 0} (value : A) (a b c : StorageState) → ReadsFor (IsErrOf {T = A} (Ok value) Storage) a b → ReadsFor told b c → ReadsFor told a c

@@ -1,23 +1,23 @@
 use Rattle.std.proofs.Common.{◌≡◌, ℕ, zero, suc, Bool, true, false, ◌+◌, List, [], ◌∷◌, length, ap, refl, arith}
 use Rattle.std.proofs.lemmas.Bool.Decides.{nat_tests}
-use Rattle.std.proofs.lemmas.List.Sums.{sum_by-cons}
+use Rattle.std.proofs.lemmas.List.Elements.{All-head}
 use Rattle.std.specs.List.{sum_by}
 use Rattle.qcow2_base.specs.Format.{max_file_length}
 use Rattle.qcow2_base.specs.Storage.{Image}
 use Rattle.qcow2_check.proofs.FindingsListLemmas.{none-just-where-right}
-use Rattle.qcow2_check.specs.Findings.{AreRight, finding_at, findings_from, image_findings, is_wrong}
+use Rattle.qcow2_check.proofs.TotalsLemmas.{none-counted}
+use Rattle.qcow2_check.specs.Findings.{AreRight, finding_at, findings_from, image_findings, is_leaked, is_missing, is_wrong}
 use Rattle.qcow2_check.specs.Flags.{image_flags}
 use Rattle.qcow2_check.specs.L1Length.{is_l1_short}
+use Rattle.qcow2_check.specs.Totals.{finding_totals, totals_on, verdict_in, verdict_of, with_flags}
 use Rattle.qcow2_check.specs.Uses.{ImageTables}
 use Rattle.qcow2_check.specs.declared.findings.Finding.{Finding}
 use Rattle.qcow2_check.specs.declared.flags.WrongFlag.{WrongFlag}
 use Rattle.qcow2_metadata.specs.Header.{HeaderRecord}
+use Rattle.qcow2_metadata.specs.Table.L2Guards.{one_if}
 use Rattle.qcow2_session.specs.Commands.Check.{report_on}
-use Rattle.qcow2_session.specs.Commands.Check.Runs.{runs_of, joined_before, single}
-use Rattle.qcow2_session.specs.Commands.Check.Totals.{clusters_of, is_leaked, is_missing, has_exclusive_uses, run_totals, totals_on, verdict_in, verdict_of, with_flags}
-use Rattle.qcow2_session.specs.declared.commands.check.runs.FindingRun.{FindingRun}
-use Rattle.qcow2_session.specs.declared.commands.check.totals.Totals.{Totals}
-use Rattle.qcow2_session.specs.declared.commands.verdict.Verdict.TheVariants.{Fine, Harmful}
+use Rattle.qcow2_check.specs.declared.totals.Totals.{Totals}
+use Rattle.qcow2_check.specs.declared.verdict.Verdict.TheVariants.{Fine, Harmful}
 
 -- the first of the findings is of a cluster that something is wrong with
 first-wrong : (tables : ImageTables) (image : Image) (from count : ℕ) (found : Finding) (rest : List Finding)
@@ -31,18 +31,6 @@ first-wrong tables image from (suc count) found rest is = with_next (first-wrong
       | true ↦ λ wrong. grind (arith, wrong, is)
       | false ↦ λ right. next (grind (arith, right, is))
     ] refl
-
--- a finding in front of runs is not of a kind that no cluster of them is of
-none-of-kind : (is_kind : Finding → Bool) (finding : Finding) (runs : List FindingRun)
-    → sum_by (clusters_of is_kind) (joined_before finding runs) ≡ 0 → is_kind finding ≡ false
-none-of-kind is_kind finding [] none = grind (arith, nat_tests, none, sum_by-cons (clusters_of is_kind) (single finding) [])
-none-of-kind is_kind finding (run ∷ runs) none = grind (
-  arith,
-  nat_tests,
-  none,
-  sum_by-cons (clusters_of is_kind) (record { first = finding; count = run.count + 1 }) runs,
-  sum_by-cons (clusters_of is_kind) (single finding) (run ∷ runs),
-)
 
 -- where the verdict on an image is that all is fine, its L1 table is long enough, and so is what was found
 pub fine-in : (header : HeaderRecord) (totals : Totals) → verdict_in header totals ≡ Fine
@@ -60,17 +48,23 @@ fine-in header totals fine = by_length (is_l1_short header) refl
 fine-zero : (totals : Totals) → verdict_of totals ≡ Fine → (totals.leaked ≡ 0) × (totals.missing ≡ 0) × (totals.shared ≡ 0)
 fine-zero totals fine = grind (arith, nat_tests, fine)
 
+-- the first of findings is of no kind that none of them is counted as
+first-not : (is_kind : Finding → Bool) (finding : Finding) (findings : List Finding) → sum_by (λ f. one_if (is_kind f)) (finding ∷ findings) ≡ 0 → is_kind finding ≡ false
+first-not is_kind finding findings none = All-head (λ f. is_kind f ≡ false) finding findings (none-counted is_kind (finding ∷ findings) none)
+
 -- nothing is wrong with a finding of such a verdict
 fine-right : (finding : Finding) (findings : List Finding) (flags : List WrongFlag)
-    → verdict_of (with_flags (run_totals (runs_of (finding ∷ findings))) flags) ≡ Fine → is_wrong finding ≡ false
+    → verdict_of (with_flags (finding_totals (finding ∷ findings)) flags) ≡ Fine → is_wrong finding ≡ false
 fine-right finding findings flags fine =
-    let zeros = fine-zero (with_flags (run_totals (runs_of (finding ∷ findings))) flags) fine in
-    let runs = runs_of findings in
-    grind (arith, nat_tests, none-of-kind is_leaked finding runs zeros.0, none-of-kind is_missing finding runs zeros.1, none-of-kind has_exclusive_uses finding runs zeros.2)
+    let zeros = fine-zero (with_flags (finding_totals (finding ∷ findings)) flags) fine in
+    let leaked = first-not is_leaked finding findings zeros.0 in
+    let missing = first-not is_missing finding findings zeros.1 in
+    let shared = first-not (λ (f : Finding). f.shared) finding findings zeros.2 in
+    grind (arith, nat_tests, leaked, missing, shared)
 
 -- so there is none
 fine-none : (tables : ImageTables) (image : Image) (flags : List WrongFlag) (findings : List Finding) → image_findings tables image ≡ findings
-    → verdict_of (with_flags (run_totals (runs_of findings)) flags) ≡ Fine → findings ≡ []
+    → verdict_of (with_flags (finding_totals findings) flags) ≡ Fine → findings ≡ []
 fine-none tables image flags [] are fine = refl
 fine-none tables image flags (finding ∷ findings) are fine =
     let wrong = first-wrong tables image 0 max_file_length finding findings are in

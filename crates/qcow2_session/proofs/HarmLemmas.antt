@@ -1,17 +1,16 @@
 use Rattle.std.proofs.Common.{◌≡◌, ◌≢◌, ℕ, Bool, true, false, ◌+◌, List, [], ◌∷◌, Ok, ap, cond, refl, subst, sym, ◌∙◌, arith}
 use Rattle.std.proofs.lemmas.Bool.Decides.{nat_tests}
-use Rattle.std.proofs.lemmas.List.Elements.{All-cons, All-head, All-nil, All-tail}
-use Rattle.std.proofs.lemmas.List.Sums.{sum_by-cons}
-use Rattle.std.specs.List.{All, sum_by}
 use Rattle.qcow2_base.specs.Storage.{Image}
 use Rattle.qcow2_metadata.specs.Header.{HeaderRecord, IsValidHeader}
 use Rattle.qcow2_metadata.specs.Header.Grammar.{header_of}
 use Rattle.qcow2_metadata.specs.Header.Open.{without_autoclear}
-use Rattle.qcow2_metadata.specs.Table.L2Guards.{one_if}
-use Rattle.qcow2_check.specs.Findings.{checked_tables, image_findings}
+use Rattle.qcow2_check.proofs.TotalsLemmas.{counts-none, none-counted}
+use Rattle.qcow2_check.specs.Findings.{checked_tables, image_findings, is_missing}
 use Rattle.qcow2_check.specs.Flags.{image_flags}
 use Rattle.qcow2_check.specs.L1Length.{is_l1_short}
+use Rattle.qcow2_check.specs.Totals.{harms_nobody, totals_on, verdict_in, verdict_of}
 use Rattle.qcow2_check.specs.Uses.{ImageTables}
+use Rattle.qcow2_check.specs.declared.findings.Finding.{Finding}
 use Rattle.qcow2_apply_laws.proofs.CheckedLemmas.{checked-planned, finds-none}
 use Rattle.qcow2_apply_laws.proofs.HeaderLeftLemmas.{header-left-by-check}
 use Rattle.qcow2_apply.specs.Apply.{EditsDisk, FollowsPlan, LosesNoName, l2_tables_of}
@@ -21,31 +20,9 @@ use Rattle.qcow2_apply.specs.Plan.{IsPlanFor, IsPlanOf}
 use Rattle.qcow2_changes.specs.declared.changed_clusters.ChangedClusters.{ChangedClusters}
 use Rattle.qcow2_guest_edits.specs.declared.guest_edits.GuestEdit.{GuestEdit}
 use Rattle.qcow2_apply.specs.declared.plan.Plan.{Plan}
-use Rattle.qcow2_session.proofs.TotalsLemmas.{totals-of-findings}
 use Rattle.qcow2_session.specs.Commands.Check.{FindsNoHarm, report_on}
-use Rattle.qcow2_session.specs.Commands.Check.Totals.{harms_nobody, has_exclusive_uses, is_missing, totals_on, verdict_in, verdict_of}
-use Rattle.qcow2_session.specs.declared.commands.check.totals.Totals.{Totals}
-use Rattle.qcow2_session.specs.declared.commands.verdict.Verdict.TheVariants.{Harmful}
-
--- a test that adds nothing fails
-fails : (test : Bool) (rest : ℕ) → cond test 1 0 + rest ≡ 0 → test ≡ false
-fails true rest none = absurd (omega (arith, none))
-fails false rest none = refl
-
--- where no item is counted that passes a test, none passes it
-none-counted : {X : Type 0} (test : X → Bool) (items : List X) → sum_by (λ item. one_if (test item)) items ≡ 0 → All (λ item. test item ≡ false) items
-none-counted test [] none = All-nil (λ item. test item ≡ false)
-none-counted test (item ∷ items) none =
-    let both : cond (test item) 1 0 + sum_by (λ x. one_if (test x)) items ≡ 0 = sym (sum_by-cons (λ x. one_if (test x)) item items) ∙ none in
-    All-cons (λ x. test x ≡ false) item items (fails (test item) _ both) (none-counted test items (omega (arith, both)))
-
--- and the other way around
-counts-none : {X : Type 0} (test : X → Bool) (items : List X) → All (λ item. test item ≡ false) items → sum_by (λ item. one_if (test item)) items ≡ 0
-counts-none test [] none = refl
-counts-none test (item ∷ items) none =
-    let first : test item ≡ false = All-head (λ x. test x ≡ false) item items none in
-    let rest = counts-none test items (All-tail (λ x. test x ≡ false) item items none) in
-    sum_by-cons (λ x. one_if (test x)) item items ∙ grind (arith, first, rest)
+use Rattle.qcow2_check.specs.declared.totals.Totals.{Totals}
+use Rattle.qcow2_check.specs.declared.verdict.Verdict.TheVariants.{Harmful}
 
 -- where the verdict isn't `Harmful`, nothing is counted that does harm
 harmless-zero : (totals : Totals) → verdict_of totals ≢ Harmful → (totals.missing ≡ 0) × (totals.shared ≡ 0) × (totals.false_flags ≡ 0)
@@ -72,10 +49,9 @@ harmless-in header totals safe = by_length (is_l1_short header) refl
 pub no-errors-of-verdict : (tables : ImageTables) (image : Image) → (report_on tables image).verdict ≢ Harmful → HasNoErrors tables image
 no-errors-of-verdict tables image safe =
     let zeros = harmless-zero (totals_on tables image) (harmless-in tables.header (totals_on tables image) safe).1 in
-    let counted = totals-of-findings tables image in
     let findings = image_findings tables image in
-    let enough = none-counted is_missing findings (sym counted.1 ∙ zeros.0) in
-    let apart = none-counted has_exclusive_uses findings (sym counted.2 ∙ zeros.1) in
+    let enough = none-counted is_missing findings zeros.0 in
+    let apart = none-counted (λ (finding : Finding). finding.shared) findings zeros.1 in
     record {
       findings = λ k d below. (grind (arith, nat_tests, enough k d below), apart k d below);
       flags = none-counted (λ flag. flag.is_set) (image_flags tables image) (omega (arith, zeros.2));
@@ -89,12 +65,11 @@ long-of-verdict tables image safe = (harmless-in tables.header (totals_on tables
 pub verdict-of-no-errors : (tables : ImageTables) (image : Image) → HasNoErrors tables image → is_l1_short tables.header ≡ false
     → (report_on tables image).verdict ≢ Harmful
 verdict-of-no-errors tables image none long =
-    let counted = totals-of-findings tables image in
     let findings = image_findings tables image in
     let missing = counts-none is_missing findings (λ k d below. grind (arith, nat_tests, none.findings k d below)) in
-    let shared = counts-none has_exclusive_uses findings (λ k d below. (none.findings k d below).1) in
+    let shared = counts-none (λ (finding : Finding). finding.shared) findings (λ k d below. (none.findings k d below).1) in
     let flags = counts-none (λ flag. flag.is_set) (image_flags tables image) none.flags in
-    rw long (zero-harmless (totals_on tables image) (counted.1 ∙ missing) (counted.2 ∙ shared) (omega (arith, flags)))
+    rw long (zero-harmless (totals_on tables image) missing shared (omega (arith, flags)))
 
 -- edits of a disk that were made by a plan leave no harm where there was none
 no-harm-by-plan : (header : HeaderRecord) (edits : List GuestEdit) (plan : Plan) (old new : Image) (tables : ImageTables) → IsValidHeader header

@@ -12,8 +12,9 @@ use Rattle.qcow2_base.specs.declared.fault.Fault.TheVariants.{Storage}
 use Rattle.qcow2_session.proofs.OutputLemmas.{part_taken}
 use Rattle.qcow2_session.specs.Commands.Printing.{AppendsPart, PrintsText}
 use Rattle.qcow2_session.specs.Commands.Report.{ReportsFault, fault_line}
-use Rattle.qcow2_session.specs.Commands.Verdict.{fine_unless_failed, status_of_verdict}
-use Rattle.qcow2_session.specs.declared.commands.verdict.Verdict.{Verdict}
+use Rattle.qcow2_check.specs.Verdict.{status_of_verdict}
+use Rattle.qcow2_session.specs.Commands.Running.{fine_unless_failed}
+use Rattle.qcow2_check.specs.declared.verdict.Verdict.{Verdict}
 
 -- the first line of a text on a fault failed to be printed
 pub rule_is_cut : {T U : Type 0} (failed : Fault) (a b : Option (List ℕ)) (fault : ℕ) (text line : List ℕ) → fault_text fault ≡ Some text → line ≡ first_line_of text

@@ -14,9 +14,9 @@ use Rattle.qcow2_session.specs.Commands.Facts.{CommandFacts}
 use Rattle.qcow2_session.specs.Commands.Printing.{AppendsPart, OutputBytes, PrintsLast, Run}
 use Rattle.qcow2_session.specs.Commands.Report.{Reports, fault_line}
 use Rattle.qcow2_session.specs.Commands.Running.{FindsHeader, IsHeaderFor, Runs}
-use Rattle.qcow2_session.specs.Commands.Verdict.{status_of_verdict}
-use Rattle.qcow2_session.specs.declared.commands.verdict.Verdict.{Verdict}
-use Rattle.qcow2_session.specs.declared.commands.verdict.Verdict.TheVariants.{Fine, Harmful, Harmless}
+use Rattle.qcow2_check.specs.Verdict.{status_of_verdict}
+use Rattle.qcow2_check.specs.declared.verdict.Verdict.{Verdict}
+use Rattle.qcow2_check.specs.declared.verdict.Verdict.TheVariants.{Fine, Harmful, Harmless}
 
 -- a command ran with the header that it found
 pub runs-with : {O : Type 0} (facts : CommandFacts) (header : HeaderRecord) (run : Run Verdict O) (left : StorageState)

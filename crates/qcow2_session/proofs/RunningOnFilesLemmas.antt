@@ -21,14 +21,14 @@ use Rattle.qcow2_session.specs.Commands.Printing.{AppendsPart, OutputBytes}
 use Rattle.qcow2_session.specs.Commands.Report.{ReportsFault, fault_line}
 use Rattle.qcow2_session.specs.Commands.RunningOnFiles.{ComparesWithFile, FitsFile, IsEditsFileFault, IsLengthFor, IsRefusedInFile, IsRepairFileFault, RunsLine, RunsOnFile, RunsWords, StopsOrEnds, edits_in_file, repair_in_file, told_beside}
 use Rattle.qcow2_session.specs.Commands.Running.{AfterHeader, EndsAndFlushes, FindsHeader}
-use Rattle.qcow2_session.specs.Commands.Verdict.{status_of_verdict}
+use Rattle.qcow2_check.specs.Verdict.{status_of_verdict}
 use Rattle.qcow2_session.specs.Commands.Words.{Word, WordList}
 use Rattle.qcow2_session.specs.declared.commands.Command.{Command}
 use Rattle.qcow2_session.specs.declared.commands.Command.TheVariants.{Apply}
 use Rattle.qcow2_session.specs.declared.commands.apply.ApplyForm.{ApplyForm}
 use Rattle.qcow2_session.specs.declared.commands.apply.DiskEdit.{DiskEdit}
-use Rattle.qcow2_session.specs.declared.commands.verdict.Verdict.{Verdict}
-use Rattle.qcow2_session.specs.declared.commands.verdict.Verdict.TheVariants.{Fine}
+use Rattle.qcow2_check.specs.declared.verdict.Verdict.{Verdict}
+use Rattle.qcow2_check.specs.declared.verdict.Verdict.TheVariants.{Fine}
 
 -- a run found its header, and stopped before its command
 pub stopped-before : {O : Type 0} (command : Command) (file : FileContent) (header : HeaderRecord) (fault : Fault) (contents : O → OutputBytes) (old left new : StorageState) (out : O)

@@ -1,6 +1,12 @@
-use Rattle.std.proofs.Common.{◌≡◌, ℕ, zero, suc, Bool, true, false, ◌+◌, List, [], ◌∷◌, ◌++◌, refl, sym, ap, ◌∙◌, ◌<◌, append-nil, append_assoc, arith}
+use Rattle.std.proofs.Common.{◌≡◌, ℕ, zero, suc, Bool, true, false, ◌+◌, if◌then◌else◌, List, [], ◌∷◌, ◌++◌, cond, refl, sym, ap, ◌∙◌, ◌<◌, append-nil, append_assoc, arith}
 use Rattle.std.proofs.lemmas.Bool.Decides.{nat_tests}
+use Rattle.std.proofs.lemmas.List.Sums.{sum_by-cons, sum_by_push}
+use Rattle.std.specs.List.{sum_by}
+use Rattle.qcow2_metadata.specs.Table.L2Guards.{one_if}
+use Rattle.qcow2_check.specs.Findings.{is_leaked, is_missing}
+use Rattle.qcow2_check.specs.Totals.{finding_totals, with_clusters}
 use Rattle.qcow2_check.specs.declared.findings.Finding.{Finding}
+use Rattle.qcow2_check.specs.declared.totals.Totals.{Totals}
 use Rattle.qcow2_session.specs.Commands.Check.Runs.{goes_on, runs_of, joined_before, single}
 use Rattle.qcow2_session.specs.declared.commands.check.runs.FindingRun.{FindingRun}
 
@@ -111,3 +117,66 @@ run-stops run next all left later some off are is = by_count run.count refl
     by_count zero none = absurd (omega (arith, some, none))
     by_count (suc n) count = ap runs_of (are ∙ ap (λ rest. members run.first run.count ++ rest) is ∙ ap (λ k. members run.first k ++ next ∷ later) count)
         ∙ joined-more run.first n next later (rw count at off) ∙ ap (λ k. record run { count = k } ∷ runs_of (next ∷ later)) (sym count)
+
+-- how many clusters of a run are of a kind: all or none
+abbrev pub clusters_of : (Finding → Bool) → FindingRun → ℕ
+clusters_of is_kind run = if is_kind run.first then run.count else 0
+
+-- how many clusters of runs are of each kind
+abbrev pub run_totals : List FindingRun → Totals
+run_totals runs = record {
+  leaked = sum_by (clusters_of is_leaked) runs;
+  missing = sum_by (clusters_of is_missing) runs;
+  shared = sum_by (clusters_of (λ (finding : Finding). finding.shared)) runs;
+  false_flags = 0;
+  late_flags = 0;
+}
+
+-- how many clusters of runs are of a kind, with a finding in front
+kind-joined : (is_kind : Finding → Bool) → ((finding : Finding) → is_kind (further finding 1) ≡ is_kind finding)
+    → (finding : Finding) (runs : List FindingRun)
+    → sum_by (clusters_of is_kind) (joined_before finding runs) ≡ clusters_of is_kind (single finding) + sum_by (clusters_of is_kind) runs
+kind-joined is_kind same finding [] = sum_by-cons (clusters_of is_kind) (single finding) []
+kind-joined is_kind same finding (run ∷ runs) = by_test (goes_on (single finding) run.first) refl
+  where
+    by_kind : (of_kind : Bool) (count rest : ℕ) → cond of_kind (count + 1) 0 + rest ≡ cond of_kind 1 0 + (cond of_kind count 0 + rest)
+    by_kind true count rest = omega arith
+    by_kind false count rest = omega arith
+
+    by_test : (on : Bool) → goes_on (single finding) run.first ≡ on
+        → sum_by (clusters_of is_kind) (joined_before finding (run ∷ runs)) ≡ clusters_of is_kind (single finding) + sum_by (clusters_of is_kind) (run ∷ runs)
+    by_test true on =
+        let kind : is_kind run.first ≡ is_kind finding = ap is_kind (goes-further finding run.first 1 on) ∙ same finding in
+        let longer : FindingRun = record { first = finding; count = run.count + 1 } in
+        rw on (sum_by-cons (clusters_of is_kind) longer runs ∙ by_kind (is_kind finding) run.count (sum_by (clusters_of is_kind) runs)
+        ∙ ap (λ k. cond (is_kind finding) 1 0 + (cond k run.count 0 + sum_by (clusters_of is_kind) runs)) (sym kind)
+        ∙ ap (λ n. cond (is_kind finding) 1 0 + n) (sym (sum_by-cons (clusters_of is_kind) run runs)))
+    by_test false off = rw off (sum_by-cons (clusters_of is_kind) (single finding) (run ∷ runs))
+
+-- the clusters of a kind, of all runs, are the findings of the kind
+found-in-runs : (is_kind : Finding → Bool) → ((finding : Finding) → is_kind (further finding 1) ≡ is_kind finding) → (findings : List Finding)
+    → sum_by (clusters_of is_kind) (runs_of findings) ≡ sum_by (λ finding. one_if (is_kind finding)) findings
+found-in-runs is_kind same [] = refl
+found-in-runs is_kind same (finding ∷ findings) =
+    kind-joined is_kind same finding (runs_of findings)
+    ∙ ap (λ n. clusters_of is_kind (single finding) + n) (found-in-runs is_kind same findings)
+    ∙ sym (sum_by-cons (λ finding. one_if (is_kind finding)) finding findings)
+
+-- so their totals are those of the findings
+totals-of-runs : (findings : List Finding) → run_totals (runs_of findings) ≡ finding_totals findings
+totals-of-runs findings = rw (
+  found-in-runs is_leaked (λ f. refl) findings,
+  found-in-runs is_missing (λ f. refl) findings,
+  found-in-runs (λ (f : Finding). f.shared) (λ f. refl) findings,
+) refl
+
+-- the totals of one run more
+pub totals-run : (printed : List FindingRun) (run : FindingRun) → with_clusters (run_totals printed) run.first run.count ≡ run_totals (printed ++ run ∷ [])
+totals-run printed run =
+    rw (sum_by_push (clusters_of is_leaked) printed run, sum_by_push (clusters_of is_missing) printed run, sum_by_push (clusters_of (λ (f : Finding). f.shared)) printed run) refl
+
+-- all runs are counted
+pub totals-all : (findings : List Finding) (printed left : List FindingRun) (totals : Totals) → runs_of findings ≡ printed ++ left → left ≡ [] → totals ≡ run_totals printed
+    → totals ≡ finding_totals findings
+totals-all findings printed left totals are none same =
+    same ∙ ap run_totals (sym (are ∙ ap (λ rest. printed ++ rest) none ∙ append-nil printed)) ∙ totals-of-runs findings

@@ -1,4 +1,4 @@
-use Rattle.std.proofs.Common.{◌≡◌, ℕ, Bool, true, false, not, ◌+◌, List, [], ◌∷◌, cond, refl, sym, ap, ◌∙◌, arith}
+use Rattle.std.proofs.Common.{◌≡◌, ℕ, Bool, true, false, not, ◌+◌, List, [], ◌∷◌, cond, refl, sym, ◌∙◌, arith}
 use Rattle.std.proofs.lemmas.Bool.Decides.{nat_tests}
 use Rattle.std.proofs.lemmas.List.Sums.{sum_by-cons}
 use Rattle.std.specs.List.{sum_by}
@@ -7,19 +7,15 @@ use Rattle.qcow2_check.proofs.FindingsListLemmas.{none-just-where-right}
 use Rattle.qcow2_check.specs.Findings.{image_findings}
 use Rattle.qcow2_check.specs.Flags.{image_flags}
 use Rattle.qcow2_check.specs.L1Length.{is_l1_short}
+use Rattle.qcow2_check.specs.Totals.{totals_on, verdict_of}
 use Rattle.qcow2_check.specs.Uses.{ImageTables}
-use Rattle.qcow2_check.specs.declared.findings.Finding.{Finding}
 use Rattle.qcow2_check.specs.declared.flags.WrongFlag.{WrongFlag}
 use Rattle.qcow2_metadata.specs.Table.L2Guards.{one_if}
 use Rattle.qcow2_summary.specs.Consistency.{IsConsistent}
-use Rattle.qcow2_session.proofs.AccountLemmas.{kind-joined}
 use Rattle.qcow2_session.proofs.ConsistentLemmas.{fine-in, right-where-fine}
-use Rattle.qcow2_session.proofs.RunsLemmas.{further}
 use Rattle.qcow2_session.specs.Commands.Check.{report_on}
-use Rattle.qcow2_session.specs.Commands.Check.Runs.{runs_of, single}
-use Rattle.qcow2_session.specs.Commands.Check.Totals.{clusters_of, has_exclusive_uses, is_leaked, is_missing, totals_on, verdict_of}
-use Rattle.qcow2_session.specs.declared.commands.check.totals.Totals.{Totals}
-use Rattle.qcow2_session.specs.declared.commands.verdict.Verdict.TheVariants.{Fine}
+use Rattle.qcow2_check.specs.declared.totals.Totals.{Totals}
+use Rattle.qcow2_check.specs.declared.verdict.Verdict.TheVariants.{Fine}
 
 -- where the verdict is that all is fine, no flag is counted
 fine-flags : (totals : Totals) → verdict_of totals ≡ Fine → (totals.false_flags ≡ 0) × (totals.late_flags ≡ 0)
@@ -53,23 +49,3 @@ consistent-where-fine tables image fine =
 pub fine-where-consistent : (tables : ImageTables) (image : Image) → IsConsistent tables image × (is_l1_short tables.header ≡ false)
     → (report_on tables image).verdict ≡ Fine
 fine-where-consistent tables image none = rw (none.1, none.0.0, none.0.1) refl
-
--- the clusters of a kind, of all runs, are the findings of the kind
-found-in-runs : (is_kind : Finding → Bool) → ((finding : Finding) → is_kind (further finding 1) ≡ is_kind finding) → (findings : List Finding)
-    → sum_by (clusters_of is_kind) (runs_of findings) ≡ sum_by (λ finding. one_if (is_kind finding)) findings
-found-in-runs is_kind same [] = refl
-found-in-runs is_kind same (finding ∷ findings) =
-    kind-joined is_kind same finding (runs_of findings)
-    ∙ ap (λ n. clusters_of is_kind (single finding) + n) (found-in-runs is_kind same findings)
-    ∙ sym (sum_by-cons (λ finding. one_if (is_kind finding)) finding findings)
-
-pub totals-of-findings : (tables : ImageTables) (image : Image) → let totals = totals_on tables image in let findings = image_findings tables image in
-    (totals.leaked ≡ sum_by (λ finding. one_if (is_leaked finding)) findings)
-    × (totals.missing ≡ sum_by (λ finding. one_if (is_missing finding)) findings)
-    × (totals.shared ≡ sum_by (λ finding. one_if (has_exclusive_uses finding)) findings)
-totals-of-findings tables image =
-    let findings = image_findings tables image in (
-      found-in-runs is_leaked (λ f. refl) findings,
-      found-in-runs is_missing (λ f. refl) findings,
-      found-in-runs has_exclusive_uses (λ f. refl) findings,
-    )

@@ -13,7 +13,7 @@ use Rattle.qcow2_session.specs.Commands.Layout.{PrintsLayout}
 use Rattle.qcow2_session.specs.Commands.List.{PrintsList, PrintsTablesBefore, TableTexts}
 use Rattle.qcow2_session.specs.Commands.Map.{Disk, PrintsExtents}
 use Rattle.qcow2_session.specs.Commands.Printing.{OutputBytes, Prints, PrintsLast, PrintsText}
-use Rattle.qcow2_session.specs.Commands.Verdict.{fine_unless_failed}
+use Rattle.qcow2_session.specs.Commands.Running.{fine_unless_failed}
 use Rattle.qcow2_session.specs.declared.commands.apply.ApplyForm.{ApplyForm}
 use Rattle.qcow2_session.specs.declared.commands.apply.DiskEdit.{DiskEdit}
 use Rattle.qcow2_session.specs.declared.commands.layout.LayoutForm.{LayoutForm}

@@ -20,7 +20,6 @@ pub mod Report
 pub mod Running
 pub mod RunningOnFiles
 pub mod Tables
-pub mod Verdict
 pub mod Words
 use Rattle.std.specs.Prelude.{◌≡◌, if◌then◌else◌, [], ◌∷◌, Option, None, bytes_eq, codes}
 use Rattle.qcow2_session.specs.Commands.Apply.{apply_command, apply_facts}

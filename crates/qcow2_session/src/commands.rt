@@ -25,7 +25,6 @@ mod refcount;
 mod report;
 mod running;
 mod tables;
-mod verdict;
 mod words;
 
 pub use apply::{ApplyForm, DiskEdit, edit_disk};
@@ -39,12 +38,12 @@ pub use l2::{ClusterBits, list_l2_table};
 pub use layout::{LayoutForm, print_layout};
 pub use list::list_tables;
 pub use map::{ExtentFormat, print_extents};
+pub use qcow2_check::Verdict;
 pub use qcow2_explain::locate_fault;
 pub use refcount::print_counters;
 pub use report::report_fault;
 pub use running::{run, run_on_file, run_words};
 pub use tables::print_tables;
-pub use verdict::Verdict;
 use words::alone;
 pub use words::{Arguments, FileName};
 

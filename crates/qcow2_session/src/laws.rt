@@ -2,7 +2,7 @@
 //! contract is the law, and its name says it.
 
 ghost use Rattle.std.specs.Prelude.{◌≡◌, ◌≢◌, ◌↔◌, ℕ, ◌/◌, ◌^◌, List, ◌∷◌, ◌++◌, true, false, IsTrue, None, Ok, Result};
-ghost use Rattle.std.specs.List.{All, list_any, sum_by};
+ghost use Rattle.std.specs.List.{All, list_any};
 ghost use Rattle.qcow2_base.specs.Format.{max_file_length};
 ghost use Rattle.qcow2_base.specs.Storage.{Image, IsBytes, StorageState};
 ghost use Rattle.qcow2_base.specs.declared.fault.Fault.{Fault};
@@ -12,10 +12,9 @@ ghost use Rattle.qcow2_metadata.specs.Header.Grammar.{header_of};
 ghost use Rattle.qcow2_metadata.specs.Header.Open.{header_after_load};
 ghost use Rattle.qcow2_metadata.specs.Results.{Answers, result_map};
 ghost use Rattle.qcow2_check.specs.Counters.{blocks_fault};
-ghost use Rattle.qcow2_check.specs.Findings.{AreRight, checked_tables, image_findings};
+ghost use Rattle.qcow2_check.specs.Findings.{AreRight, checked_tables};
 ghost use Rattle.qcow2_check.specs.L1Length.{is_l1_short};
 ghost use Rattle.qcow2_check.specs.Uses.{ImageTables};
-ghost use Rattle.qcow2_metadata.specs.Table.L2Guards.{one_if};
 ghost use Rattle.qcow2_summary.specs.Consistency.{IsConsistent};
 ghost use Rattle.qcow2_apply_laws.specs.Errors.{HasNoErrors};
 ghost use Rattle.qcow2_apply.specs.Apply.{AreAllApart, EditsDisk, FollowsPlan, LosesNoName, l2_tables_of, plan_tables, tables_by};
@@ -30,10 +29,9 @@ ghost use Rattle.qcow2_session.specs.Commands.{facts_of};
 ghost use Rattle.qcow2_session.specs.Commands.Running.{FindsHeader};
 ghost use Rattle.qcow2_session.specs.declared.commands.Command.{Command};
 ghost use Rattle.qcow2_session.specs.Commands.Check.{FindsNoHarm, report_on};
-ghost use Rattle.qcow2_session.specs.Commands.Check.Totals.{has_exclusive_uses, is_leaked, is_missing, totals_on};
 ghost use Rattle.qcow2_session.specs.EditedDisk.{covers, mapping_after, mapping_left};
 ghost use Rattle.qcow2_session.specs.RepairedDisk.{ReadSame};
-ghost use Rattle.qcow2_session.specs.declared.commands.verdict.Verdict.TheVariants.{Fine, Harmful};
+ghost use Rattle.qcow2_check.specs.declared.verdict.Verdict.TheVariants.{Fine, Harmful};
 
 pub use qcow2_edits::laws::{
     a_settled_block_counts_the_outcome, counters_follow_references, covered_references_stay_covered,
@@ -73,16 +71,6 @@ pub fn a_verdict_is_fine_just_where_an_image_is_consistent()
 pub fn a_verdict_is_harmful_just_where_there_are_errors()
     ensures { (tables : ImageTables) (image : Image) → ((report_on tables image).verdict ≢ Harmful)
         ↔ (HasNoErrors tables image × (is_l1_short tables.header ≡ false)) }
-{}
-
-/// The totals that a check prints count each cluster that is found, once for each of its kinds: leaked,
-/// missing, shared.
-pub fn totals_count_each_cluster_that_is_found()
-    ensures { (tables : ImageTables) (image : Image) → let totals = totals_on tables image in
-        let findings = image_findings tables image in
-        (totals.leaked ≡ sum_by (λ finding. one_if (is_leaked finding)) findings)
-        × (totals.missing ≡ sum_by (λ finding. one_if (is_missing finding)) findings)
-        × (totals.shared ≡ sum_by (λ finding. one_if (has_exclusive_uses finding)) findings) }
 {}
 
 /// Where a check of an image ends with a verdict that isn't `Harmful`, and no two L1 entries name one L2

@@ -1,14 +1,13 @@
 -- What does a check of a whole image in memory put into a list, and which totals does it return?
-use Rattle.std.specs.Prelude.{◌≡◌, ◌⊎◌, ◌+◌, ◌*◌, ◌≤◌, nat_lt, not, Bool, List, length, map, take, Result, Ok, Err, IsErrAnd}
-use Rattle.std.specs.List.{sum_by}
+use Rattle.std.specs.Prelude.{◌≡◌, ◌⊎◌, ℕ, ◌+◌, ◌*◌, ◌≤◌, List, length, map, take, Result, Ok, Err, IsErrAnd}
 use Rattle.qcow2_base.specs.Fault.{fault_number}
 use Rattle.qcow2_base.specs.Storage.{Image}
 use Rattle.qcow2_base.specs.declared.fault.Fault.{Fault}
-use Rattle.qcow2_check.specs.Findings.{checked_tables, image_findings}
-use Rattle.qcow2_check.specs.Flags.{image_flags}
+use Rattle.qcow2_check.specs.Findings.{checked_tables, image_findings, is_leaked, is_missing}
+use Rattle.qcow2_check.specs.Totals.{totals_on}
 use Rattle.qcow2_check.specs.Uses.{ImageTables}
 use Rattle.qcow2_check.specs.declared.findings.Finding.{Finding}
-use Rattle.qcow2_check.specs.declared.flags.WrongFlag.{WrongFlag}
+use Rattle.qcow2_check.specs.declared.totals.Totals.{Totals}
 use Rattle.qcow2_metadata.specs.Header.Grammar.{header_of}
 use Rattle.qcow2_metadata.specs.Results.{IsFromOutside, and_then}
 use Rattle.qcow2_metadata.specs.Table.L2Guards.{one_if}
@@ -16,61 +15,30 @@ use Rattle.qcow2_bytes.specs.Images.Extents.{IsPutOver}
 use Rattle.qcow2_bytes.specs.declared.images.check.CheckTotals.{CheckTotals}
 use Rattle.qcow2_bytes.specs.declared.images.check.FindingFields.{FindingFields}
 
--- whether the counter of a cluster is greater than its number of uses
-abbrev pub counts_too_many : Finding → Bool
-counts_too_many finding = nat_lt finding.uses finding.counter
-
--- whether it is smaller
-abbrev pub counts_too_few : Finding → Bool
-counts_too_few finding = nat_lt finding.counter finding.uses
-
 -- a finding in fields
 abbrev pub finding_fields : Finding → FindingFields
 finding_fields finding = record {
-  kinds = one_if (counts_too_many finding) + 2 * one_if (counts_too_few finding) + 4 * one_if finding.shared;
+  kinds = one_if (is_leaked finding) + 2 * one_if (is_missing finding) + 4 * one_if finding.shared;
   reserved = 0;
   cluster = finding.cluster.0;
   counter = finding.counter;
   uses = finding.uses;
 }
 
--- how many findings there are, and how many of each kind
-abbrev pub finding_totals : List Finding → CheckTotals
-finding_totals findings = record {
-  findings = length findings;
-  leaked = sum_by (λ f. one_if (counts_too_many f)) findings;
-  missing = sum_by (λ f. one_if (counts_too_few f)) findings;
-  shared = sum_by (λ (f : Finding). one_if f.shared) findings;
-  false_flags = 0;
-  late_flags = 0;
+-- how many findings there are, and totals, in fields
+abbrev pub totals_in_fields : ℕ → Totals → CheckTotals
+totals_in_fields findings totals = record {
+  findings = findings;
+  leaked = totals.leaked;
+  missing = totals.missing;
+  shared = totals.shared;
+  false_flags = totals.false_flags;
+  late_flags = totals.late_flags;
 }
 
--- totals with one finding more
-abbrev pub with_finding : CheckTotals → Finding → CheckTotals
-with_finding totals finding = record totals {
-  findings = totals.findings + 1;
-  leaked = totals.leaked + one_if (counts_too_many finding);
-  missing = totals.missing + one_if (counts_too_few finding);
-  shared = totals.shared + one_if finding.shared;
-}
-
--- totals with those of flags: how many are set, and how many aren't
-abbrev pub with_wrong_flags : CheckTotals → List WrongFlag → CheckTotals
-with_wrong_flags totals flags = record totals {
-  false_flags = totals.false_flags + sum_by (λ (flag : WrongFlag). one_if flag.is_set) flags;
-  late_flags = totals.late_flags + sum_by (λ (flag : WrongFlag). one_if (not flag.is_set)) flags;
-}
-
--- totals with one flag more
-abbrev pub with_wrong_flag : CheckTotals → WrongFlag → CheckTotals
-with_wrong_flag totals flag = record totals {
-  false_flags = totals.false_flags + one_if flag.is_set;
-  late_flags = totals.late_flags + one_if (not flag.is_set);
-}
-
--- the totals of an image with these tables
+-- those of an image with these tables
 abbrev pub check_totals : ImageTables → Image → CheckTotals
-check_totals tables image = with_wrong_flags (finding_totals (image_findings tables image)) (image_flags tables image)
+check_totals tables image = totals_in_fields (length (image_findings tables image)) (totals_on tables image)
 
 -- the tables of an image that can be checked, or the first fault, of its header or of its tables
 abbrev pub tables_at : Image → Result ImageTables Fault

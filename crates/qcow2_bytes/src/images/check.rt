@@ -1,17 +1,16 @@
 //! What a check finds of a whole image in memory.
 
-ghost use Rattle.std.specs.Prelude.{◌≡◌, ◌⊎◌, ◌+◌, Ok, IfErr, IfOk, IsOkUnless, map, set};
+ghost use Rattle.std.specs.Prelude.{◌≡◌, ◌⊎◌, ◌+◌, Ok, IfErr, IfOk, IsOkUnless, length, map, set};
 ghost use Rattle.qcow2_base.specs.Storage.{OnImage, OnlyReads, image_of};
 ghost use Rattle.qcow2_base.specs.declared.fault.Fault.TheVariants.{NoMemory};
 ghost use Rattle.qcow2_check.specs.Findings.{IsFindingsOf, IsLaterFault, MovesFindings, checked_tables, image_findings, tables_of};
-ghost use Rattle.qcow2_check.specs.Flags.{IsFlagsOf, flags_left};
+ghost use Rattle.qcow2_check.specs.Totals.{finding_totals};
 ghost use Rattle.qcow2_metadata.specs.Results.{IsFromOutside};
-ghost use Rattle.qcow2_metadata.specs.Table.L2Guards.{one_if};
-ghost use Rattle.qcow2_bytes.specs.Images.Check.{AreFirstPut, IsCheckRefusal, PutsFindings, finding_fields, finding_totals, tables_at, with_finding, with_wrong_flag, with_wrong_flags};
+ghost use Rattle.qcow2_bytes.specs.Images.Check.{AreFirstPut, IsCheckRefusal, PutsFindings, finding_fields, tables_at, totals_in_fields};
 
 use crate::header::without_storage_fault;
 use qcow2_base::{Fault, SliceStorage, Storage};
-use qcow2_check::{Finding, Findings, Flags, WrongFlag};
+use qcow2_check::{Finding, Findings, Totals};
 use qcow2_metadata::Header;
 use std::alloc::Global;
 
@@ -49,15 +48,6 @@ pub struct CheckTotals {
     /// How many aren't set, though the counter is 1 or there is none.
     pub late_flags: u64,
 }
-
-const NOTHING: CheckTotals = CheckTotals {
-    findings: 0,
-    leaked: 0,
-    missing: 0,
-    shared: 0,
-    false_flags: 0,
-    late_flags: 0,
-};
 
 /// Checks an image by the bytes of all of it, puts the clusters that something is wrong with into a list, in
 /// their order, as many as it has room for, and returns how much is wrong in all. What comes after them in
@@ -122,32 +112,44 @@ fn put_all<S: Storage>(
         PutsFindings (Ok (tables_of reader.entry)) bytes findings.old findings.new result) }
     ensures fault { IfErr result (IsLaterFault (S.state image.old)) }
 {
-    let totals = put_findings(&mut reader, image, findings)?;
+    let (count, totals) = put_findings(&mut reader, image, findings)?;
     let mut flags = reader.into_flags();
-    count_wrong_flags(&mut flags, image, totals)
+    let totals = totals.with_flags_left(&mut flags, image)?;
+    Ok(totals_in_fields(count, &totals))
 }
 
-// Puts the findings of the image that a reader is at the start of, and returns how many they are.
+// Puts the findings of the image that a reader is at the start of, and returns how many they are, and how
+// many of each kind.
 fn put_findings<S: Storage>(
     reader: &mut Findings<'_>,
     image: &mut S,
     findings: &mut [FindingFields],
-) -> Result<CheckTotals, Fault>
+) -> Result<(u64, Totals), Fault>
     requires reader { OnImage (S.state image.old) (λ bytes. IsFindingsOf bytes reader.old) }
     requires begun { reader.old.position ≡ 0 }
-    ensures put { IfOk result (λ totals. OnImage (S.state image.old) (λ bytes.
+    ensures put { IfOk result (λ counts. OnImage (S.state image.old) (λ bytes.
         let all = image_findings (tables_of reader.old) bytes in
-        (totals ≡ finding_totals all) × AreFirstPut (map finding_fields all) findings.old findings.new)) }
+        (counts.0 ≡ length all) × (counts.1 ≡ finding_totals all)
+        × AreFirstPut (map finding_fields all) findings.old findings.new)) }
     ensures reader { MovesFindings (S.state image.old) reader.old reader.new }
     ensures fault { IfErr result (IsLaterFault (S.state image.old)) }
     ensures storage { OnlyReads result (S.state image.old) (S.state image.new) }
 {
-    let mut totals = NOTHING;
+    let (mut count, mut totals) = (0, Totals::new());
     while let Some(finding) = reader.next(image)? {
-        put_finding(findings, totals.findings, &finding);
-        totals = totals.with_finding(&finding)?;
+        put_finding(findings, count, &finding);
+        totals = totals.with_clusters(&finding, 1)?;
+        count = one_more(count)?;
     }
-    Ok(totals)
+    Ok((count, totals))
+}
+
+// A number and one more. No image has that many clusters that it doesn't fit.
+fn one_more(number: u64) -> Result<u64, Fault>
+    ensures fault { IsOkUnless result NoMemory }
+    ensures sum { IfOk result (λ sum. sum ≡ number + 1) }
+{
+    number.checked_add(1).ok_or(Fault::NoMemory)
 }
 
 // Puts a finding at a place of a list, if the list has that place.
@@ -163,8 +165,7 @@ fn put_finding(findings: &mut [FindingFields], place: u64, finding: &Finding)
 fn fields_of(finding: &Finding) -> FindingFields
     ensures { result ≡ finding_fields finding.now }
 {
-    let is_leaked = finding.uses < finding.counter;
-    let is_missing = finding.counter < finding.uses;
+    let (is_leaked, is_missing) = (finding.is_leaked(), finding.is_missing());
     FindingFields {
         kinds: is_leaked as u32 + 2 * is_missing as u32 + 4 * finding.shared as u32,
         reserved: 0,
@@ -174,56 +175,16 @@ fn fields_of(finding: &Finding) -> FindingFields
     }
 }
 
-// Counts the wrong flags that a reader comes to yet, and returns totals with theirs.
-fn count_wrong_flags<S: Storage>(
-    flags: &mut Flags<'_>,
-    image: &mut S,
-    totals: CheckTotals,
-) -> Result<CheckTotals, Fault>
-    requires { OnImage (S.state image.old) (λ bytes. IsFlagsOf bytes flags.old) }
-    ensures totals { IfOk result (λ new. OnImage (S.state image.old) (λ bytes.
-        new ≡ with_wrong_flags totals (flags_left flags.old bytes))) }
-    ensures fault { IfErr result (IsLaterFault (S.state image.old)) }
+// How many findings there are, and totals, in plain numbers.
+fn totals_in_fields(findings: u64, totals: &Totals) -> CheckTotals
+    ensures { result ≡ totals_in_fields findings totals.now }
 {
-    let mut totals = totals;
-    while let Some(flag) = flags.next(image)? {
-        totals = totals.with_flag(&flag)?;
-    }
-    Ok(totals)
-}
-
-// A number and one more where something is so. No image has that many clusters or flags that it doesn't fit.
-fn one_more_if(number: u64, is_so: bool) -> Result<u64, Fault>
-    ensures fault { IsOkUnless result NoMemory }
-    ensures sum { IfOk result (λ sum. sum ≡ number + one_if is_so) }
-{
-    number.checked_add(u64::from(is_so)).ok_or(Fault::NoMemory)
-}
-
-impl CheckTotals {
-    // These, and a finding.
-    fn with_finding(self, finding: &Finding) -> Result<CheckTotals, Fault>
-        ensures fault { IsOkUnless result NoMemory }
-        ensures totals { IfOk result (λ totals. totals ≡ with_finding self finding.now) }
-    {
-        Ok(CheckTotals {
-            findings: one_more_if(self.findings, true)?,
-            leaked: one_more_if(self.leaked, finding.uses < finding.counter)?,
-            missing: one_more_if(self.missing, finding.counter < finding.uses)?,
-            shared: one_more_if(self.shared, finding.shared)?,
-            ..self
-        })
-    }
-
-    // These, and a wrong flag.
-    fn with_flag(self, flag: &WrongFlag) -> Result<CheckTotals, Fault>
-        ensures fault { IsOkUnless result NoMemory }
-        ensures totals { IfOk result (λ totals. totals ≡ with_wrong_flag self flag.now) }
-    {
-        Ok(CheckTotals {
-            false_flags: one_more_if(self.false_flags, flag.is_set)?,
-            late_flags: one_more_if(self.late_flags, !flag.is_set)?,
-            ..self
-        })
+    CheckTotals {
+        findings,
+        leaked: totals.leaked,
+        missing: totals.missing,
+        shared: totals.shared,
+        false_flags: totals.false_flags,
+        late_flags: totals.late_flags,
     }
 }

@@ -3,13 +3,13 @@ pub mod Account
 pub mod Json
 pub mod Lines
 pub mod Runs
-pub mod Totals
 use Rattle.std.specs.Prelude.{◌≡◌, ◌≢◌, ◌⊎◌, Bool, false, true, ℕ, if◌then◌else◌, List, [], ◌∷◌, ◌++◌, flat_map, Option, Some, None, Result, Ok, Err, IfErr, IfOk, IsErrOf, IsOkAnd, MatchResult, OnOk, bytes_eq, codes}
 use Rattle.qcow2_base.specs.Storage.{Image, OnImage, ReadsFor, StorageState}
 use Rattle.qcow2_base.specs.declared.fault.Fault.{Fault}
 use Rattle.qcow2_base.specs.declared.fault.Fault.TheVariants.{Storage}
 use Rattle.qcow2_check.specs.Findings.{checked_tables, image_findings}
 use Rattle.qcow2_check.specs.Flags.{image_flags}
+use Rattle.qcow2_check.specs.Totals.{totals_on, verdict_in}
 use Rattle.qcow2_check.specs.Uses.{ImageTables}
 use Rattle.qcow2_metadata.specs.Header.{HeaderRecord}
 use Rattle.qcow2_metadata.specs.Results.{IsFromOutside, result_map}
@@ -17,7 +17,6 @@ use Rattle.qcow2_repair.specs.Repair.{RepairsImage}
 use Rattle.qcow2_session.specs.Commands.Check.Json.{checked_object}
 use Rattle.qcow2_session.specs.Commands.Check.Lines.{end_lines, flag_line, run_lines}
 use Rattle.qcow2_session.specs.Commands.Check.Runs.{runs_of}
-use Rattle.qcow2_session.specs.Commands.Check.Totals.{totals_on, verdict_in}
 use Rattle.qcow2_session.specs.Commands.Facts.{CommandFacts, plain_facts}
 use Rattle.qcow2_session.specs.Commands.Printing.{OutputGets, OutputGetsPart, Prints, Run}
 use Rattle.qcow2_session.specs.Commands.Words.{Word, WordList}
@@ -25,8 +24,8 @@ use Rattle.qcow2_session.specs.declared.commands.Command.{Command}
 use Rattle.qcow2_session.specs.declared.commands.Command.TheVariants as command
 use Rattle.qcow2_session.specs.declared.commands.check.CheckForm.{CheckForm}
 use Rattle.qcow2_session.specs.declared.commands.check.CheckForm.TheVariants as form
-use Rattle.qcow2_session.specs.declared.commands.verdict.Verdict.{Verdict}
-use Rattle.qcow2_session.specs.declared.commands.verdict.Verdict.TheVariants.{Harmful}
+use Rattle.qcow2_check.specs.declared.verdict.Verdict.{Verdict}
+use Rattle.qcow2_check.specs.declared.verdict.Verdict.TheVariants.{Harmful}
 
 -- what a check comes to: its lines, and the verdict
 pub record Report : Type 0 where

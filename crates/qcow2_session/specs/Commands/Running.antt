@@ -6,9 +6,15 @@ use Rattle.qcow2_base.specs.declared.fault.Fault.{Fault}
 use Rattle.qcow2_base.specs.declared.fault.Fault.TheVariants.{NoMemory, Storage}
 use Rattle.qcow2_metadata.specs.Header.{HeaderRecord, geometry, geometry_of}
 use Rattle.qcow2_metadata.specs.Header.Open.{Loads}
+use Rattle.qcow2_metadata.specs.Results.{result_map}
 use Rattle.qcow2_session.specs.Commands.Facts.{CommandFacts}
 use Rattle.qcow2_session.specs.Commands.Printing.{PrintsLast, Run}
-use Rattle.qcow2_session.specs.declared.commands.verdict.Verdict.{Verdict}
+use Rattle.qcow2_check.specs.declared.verdict.Verdict.{Verdict}
+use Rattle.qcow2_check.specs.declared.verdict.Verdict.TheVariants.{Fine}
+
+-- the answer of a run whose command looks for nothing wrong: its fault, or that all is fine
+abbrev pub fine_unless_failed : {T : Type 0} → Result T Fault → Result Verdict Fault
+fine_unless_failed ran = result_map (λ _. Fine) ran
 
 -- a header without an external data file was made for these cluster bits, unless memory ran out
 abbrev pub IsNewHeader : ℕ → Result HeaderRecord Fault → Type 0

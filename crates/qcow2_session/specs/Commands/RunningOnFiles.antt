@@ -18,13 +18,13 @@ use Rattle.qcow2_session.specs.Commands.Apply.{first_unfit_in_file}
 use Rattle.qcow2_session.specs.Commands.Printing.{OutputBytes, Run}
 use Rattle.qcow2_session.specs.Commands.Report.{ReportsFault}
 use Rattle.qcow2_session.specs.Commands.Running.{AfterHeader, EndsAndFlushes}
-use Rattle.qcow2_session.specs.Commands.Verdict.{status_of_verdict}
+use Rattle.qcow2_check.specs.Verdict.{status_of_verdict}
 use Rattle.qcow2_session.specs.Commands.Words.{Word}
 use Rattle.qcow2_session.specs.declared.commands.Command.{Command}
 use Rattle.qcow2_session.specs.declared.commands.Command.TheVariants.{Apply, Check}
 use Rattle.qcow2_session.specs.declared.commands.apply.DiskEdit.{DiskEdit}
 use Rattle.qcow2_session.specs.declared.commands.check.CheckForm.TheVariants.{Repair}
-use Rattle.qcow2_session.specs.declared.commands.verdict.Verdict.{Verdict}
+use Rattle.qcow2_check.specs.declared.verdict.Verdict.{Verdict}
 
 -- why edits can't be made of the disk of an image with this header, in a file of this length, if they can't: the L1 table is too
 -- short, the first edit that doesn't fit the disk or maps a cluster past the file's end, or a table that the file doesn't have.

@@ -5,11 +5,11 @@ ghost use Rattle.qcow2_base.specs.Storage.{OnImage, ReadsFor};
 ghost use Rattle.qcow2_base.specs.declared.fault.Fault.TheVariants.{Storage as StorageFailed};
 ghost use Rattle.qcow2_check.specs.Findings.{IsFindingsOf, MovesFindings, tables_of};
 ghost use Rattle.qcow2_check.specs.Flags.{IsFlagsOf, flags_left};
+ghost use Rattle.qcow2_check.specs.Totals.{finding_totals, verdict_in, with_flags};
 ghost use Rattle.qcow2_session.specs.Commands.Check.{EndsCheck, HasVerdict, PrintsLines, PrintsReport, RepairsAndChecks, check_command, checked_report, prints_early, repairs, report_on};
 ghost use Rattle.qcow2_session.specs.Commands.Check.Json.{checked_object};
 ghost use Rattle.qcow2_session.specs.Commands.Check.Lines.{end_lines, flag_line, run_lines};
-ghost use Rattle.qcow2_session.specs.Commands.Check.Runs.{runs_left};
-ghost use Rattle.qcow2_session.specs.Commands.Check.Totals.{run_totals, verdict_in, with_flags};
+ghost use Rattle.qcow2_session.specs.Commands.Check.Runs.{all_left, runs_left};
 ghost use Rattle.qcow2_session.specs.Commands.Printing.{Prints, PrintsLast, PrintsText, run_over};
 ghost use Rattle.qcow2_session.specs.Commands.Words.{Parses};
 
@@ -19,21 +19,20 @@ use crate::Verdict;
 use crate::lines::{Output, ToLine, print};
 use account::take_account;
 use json::print_object;
+use lines::end_lines;
 use qcow2_base::{Fault, Storage};
-use qcow2_check::{Findings, Flags};
+use qcow2_check::{Findings, Flags, Totals};
 use qcow2_metadata::Header;
 use qcow2_metadata::laws::every_header_is_valid;
 use qcow2_repair::repair_image;
 use runs::FindingRuns;
 use std::alloc::{AllocError, Global};
 use std::io::Write;
-use totals::Totals;
 
 mod account;
 mod json;
 mod lines;
 mod runs;
-mod totals;
 
 /// What a check prints, and whether it repairs the image first.
 #[derive(Drop)]
@@ -191,7 +190,7 @@ fn print_end<O: Write>(totals: &Totals, header: &Header, out: &mut O) -> Result<
         (end_lines header.now totals.now) }
     ensures verdict { IfOk result (λ verdict. verdict ≡ verdict_in header.now totals.now) }
 {
-    print(totals.end_lines(header).as_bytes(), out)?;
+    print(end_lines(totals, header).as_bytes(), out)?;
     Ok(totals.verdict(header))
 }
 
@@ -205,13 +204,13 @@ fn print_runs<S: Storage, O: Write>(
     ensures prints { PrintsLines (run_over S.state O.contents result image.old image.new out.old out.new)
         (λ bytes. flat_map run_lines (runs_left runs.old bytes)) }
     ensures totals { IfOk result (λ totals. OnImage (S.state image.old) (λ bytes.
-        totals ≡ run_totals (runs_left runs.old bytes))) }
+        totals ≡ finding_totals (all_left runs.old bytes))) }
     ensures reader { MovesFindings (S.state image.old) runs.old.findings runs.new.findings }
     ensures storage { ReadsFor (IsErrOf result StorageFailed) (S.state image.old) (S.state image.new) }
 {
     let mut totals = Totals::new();
     while let Some(run) = runs.next(image)? {
-        totals = totals.with_run(&run)?;
+        totals = totals.with_clusters(&run.first, run.count)?;
         print(run.to_line().as_bytes(), out)?;
     }
     Ok(totals)

@@ -1,26 +1,16 @@
 -- What does a check find of an image, in numbers?
-use Rattle.std.specs.Prelude.{ℕ, ◌+◌, Result}
+use Rattle.std.specs.Prelude.{ℕ, Result}
 use Rattle.qcow2_base.specs.Storage.{Image}
 use Rattle.qcow2_base.specs.declared.fault.Fault.{Fault}
 use Rattle.qcow2_summary.specs.EntryCounts.{entry_counts}
 use Rattle.qcow2_check.specs.Findings.{checked_tables}
 use Rattle.qcow2_summary.specs.ImageEnd.{image_end}
-use Rattle.qcow2_check.specs.L1Length.{guest_clusters, is_l1_short}
+use Rattle.qcow2_check.specs.L1Length.{guest_clusters}
+use Rattle.qcow2_check.specs.Totals.{corruptions_in, totals_on}
 use Rattle.qcow2_check.specs.Uses.{ImageTables}
 use Rattle.qcow2_metadata.specs.Header.{HeaderRecord, geometry_of}
 use Rattle.qcow2_metadata.specs.Results.{result_map}
-use Rattle.qcow2_metadata.specs.Table.L2Guards.{one_if}
-use Rattle.qcow2_session.specs.Commands.Check.Totals.{totals_on}
 use Rattle.qcow2_session.specs.declared.commands.check.account.Account.{Account}
-use Rattle.qcow2_session.specs.declared.commands.check.totals.Totals.{Totals}
-
--- how much of what is found QEMU counts as corruptions: missing clusters, and flags that are false or late
-abbrev pub corruptions_of : Totals → ℕ
-corruptions_of totals = totals.missing + totals.false_flags + totals.late_flags
-
--- and in an image with this header, where an L1 table that is too short for the disk is one more
-unfoldable pub corruptions_in : HeaderRecord → Totals → ℕ
-corruptions_in header totals = corruptions_of totals + one_if (is_l1_short header)
 
 -- the account of an image with these tables
 abbrev pub account_of : ImageTables → Image → Account

@@ -1,17 +1,18 @@
 -- What are the lines of a check?
 use Rattle.std.specs.Prelude.{ℕ, if◌then◌else◌, List, [], ◌++◌, Option, Some, None, codes}
 use Rattle.std.specs.Fmt.{decimal}
+use Rattle.qcow2_check.specs.Findings.{is_leaked, is_missing}
 use Rattle.qcow2_check.specs.L1Length.{is_l1_short, needed_l1_entries}
+use Rattle.qcow2_check.specs.Totals.{verdict_of}
 use Rattle.qcow2_check.specs.declared.flags.FlagPlace.{FlagPlace}
 use Rattle.qcow2_check.specs.declared.flags.FlagPlace.TheVariants.{L1Index, Offset}
 use Rattle.qcow2_check.specs.declared.flags.WrongFlag.{WrongFlag}
 use Rattle.qcow2_metadata.specs.Header.{HeaderRecord}
-use Rattle.qcow2_session.specs.Commands.Check.Totals.{is_leaked, is_missing, verdict_of}
 use Rattle.qcow2_session.specs.Lines.{offset_text}
 use Rattle.qcow2_session.specs.declared.commands.check.runs.FindingRun.{FindingRun}
-use Rattle.qcow2_session.specs.declared.commands.check.totals.Totals.{Totals}
-use Rattle.qcow2_session.specs.declared.commands.verdict.Verdict.{Verdict}
-use Rattle.qcow2_session.specs.declared.commands.verdict.Verdict.TheVariants.{Fine, Harmful, Harmless}
+use Rattle.qcow2_check.specs.declared.totals.Totals.{Totals}
+use Rattle.qcow2_check.specs.declared.verdict.Verdict.{Verdict}
+use Rattle.qcow2_check.specs.declared.verdict.Verdict.TheVariants.{Fine, Harmful, Harmless}
 
 -- what a line says of a run after the kind: the first cluster, how many they are, their counter and their number of uses
 abbrev pub run_numbers : FindingRun → List ℕ

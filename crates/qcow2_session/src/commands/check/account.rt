@@ -4,17 +4,13 @@ ghost use Rattle.std.specs.Prelude.{◌≡◌, ◌+◌, ◌≤◌, nat_lt, if◌
 ghost use Rattle.qcow2_base.specs.Storage.{OnImage, OnlyReads};
 ghost use Rattle.qcow2_base.specs.declared.fault.Fault.TheVariants.{NoMemory};
 ghost use Rattle.qcow2_check.specs.Findings.{IsFindingsOf, IsLaterFault, MovesFindings, image_findings, tables_of};
-ghost use Rattle.qcow2_check.specs.Flags.{IsFlagsOf, MovesFlags, flags_left};
+ghost use Rattle.qcow2_check.specs.Totals.{finding_totals, totals_on, with_clusters};
 ghost use Rattle.qcow2_summary.specs.ImageEnd.{findings_end, image_end, most_clusters};
 ghost use Rattle.qcow2_metadata.specs.Results.{Answers, IsFromOutside};
 ghost use Rattle.qcow2_session.specs.Commands.Check.Account.{checked_account};
-ghost use Rattle.qcow2_session.specs.Commands.Check.Runs.{runs_of, single};
-ghost use Rattle.qcow2_session.specs.Commands.Check.Totals.{run_totals, totals_on, with_flags, with_run};
 
-use super::runs::FindingRun;
-use super::totals::Totals;
 use qcow2_base::{ClusterCount, Fault, Storage};
-use qcow2_check::{Finding, Findings, Flags};
+use qcow2_check::{Finding, Findings, Totals};
 use qcow2_metadata::Header;
 use qcow2_summary::{EntryCounts, count_entries, end_of_image, most_clusters};
 use std::alloc::Global;
@@ -43,13 +39,13 @@ impl Found {
     // This, and one finding more.
     fn with_finding(self, finding: &Finding, limit: u64) -> Result<Found, Fault>
         ensures fault { IsOkUnless result NoMemory }
-        ensures totals { IfOk result (λ found. found.totals ≡ with_run self.totals (single finding.now)) }
+        ensures totals { IfOk result (λ found. found.totals ≡ with_clusters self.totals finding.now 1) }
         ensures end { IfOk result (λ found. found.end
             ≡ (if nat_lt finding.now.cluster.0 limit then finding.now.cluster.0 + 1 else self.end)) }
     {
         let cluster = finding.cluster.0;
         Ok(Found {
-            totals: self.totals.with_run(&FindingRun::new(*finding))?,
+            totals: self.totals.with_clusters(finding, 1)?,
             end: if cluster < limit {
                 cluster + 1
             } else {
@@ -70,7 +66,7 @@ fn count_findings<S: Storage>(
     requires limit { limit ≡ most_clusters findings.old.header }
     ensures found { IfOk result (λ found. (found.end ≤ limit) × OnImage (S.state image.old) (λ bytes.
         let tables = tables_of findings.old in
-        (found.totals ≡ run_totals (runs_of (image_findings tables bytes)))
+        (found.totals ≡ finding_totals (image_findings tables bytes))
         × (found.end ≡ findings_end tables bytes))) }
     ensures reader { MovesFindings (S.state image.old) findings.old findings.new }
     ensures fault { IfErr result (IsLaterFault (S.state image.old)) }
@@ -84,26 +80,6 @@ fn count_findings<S: Storage>(
         found = found.with_finding(&finding, limit)?;
     }
     Ok(found)
-}
-
-// Counts the wrong flags that a reader comes to yet, and returns totals with theirs.
-fn count_flags<S: Storage>(
-    flags: &mut Flags<'_>,
-    image: &mut S,
-    totals: Totals,
-) -> Result<Totals, Fault>
-    requires { OnImage (S.state image.old) (λ bytes. IsFlagsOf bytes flags.old) }
-    ensures totals { IfOk result (λ new. OnImage (S.state image.old) (λ bytes.
-        new ≡ with_flags totals (flags_left flags.old bytes))) }
-    ensures reader { MovesFlags (S.state image.old) flags.old flags.new }
-    ensures fault { IfErr result (IsLaterFault (S.state image.old)) }
-    ensures storage { OnlyReads result (S.state image.old) (S.state image.new) }
-{
-    let mut totals = totals;
-    while let Some(flag) = flags.next(image)? {
-        totals = totals.with_flag(&flag)?;
-    }
-    Ok(totals)
 }
 
 // The totals of the image that a reader of findings is at the start of, and where it ends.
@@ -124,7 +100,7 @@ fn totals_and_end<S: Storage>(
     let mut findings = findings;
     let found = count_findings(&mut findings, image, most_clusters(header))?;
     let mut flags = findings.into_flags();
-    let totals = count_flags(&mut flags, image, found.totals)?;
+    let totals = found.totals.with_flags_left(&mut flags, image)?;
     let mut counters = flags.into_counters();
     let end = end_of_image(&mut counters, image, found.end)?;
     Ok((totals, end))

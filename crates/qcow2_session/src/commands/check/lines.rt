@@ -1,11 +1,12 @@
-//! The lines of a check: those of runs of findings, and of wrong flags.
+//! The lines of a check: those of runs of findings, of wrong flags, and the last.
 
-ghost use Rattle.std.specs.Prelude.{◌≡◌, ◌+◌, ◌≤◌, ◌++◌, length};
-ghost use Rattle.qcow2_session.specs.Commands.Check.Lines.{counter_text, flag_line, place_text, run_lines, run_numbers};
+ghost use Rattle.std.specs.Prelude.{◌≡◌, ◌+◌, ◌≤◌, ◌++◌, codes, length};
+ghost use Rattle.qcow2_session.specs.Commands.Check.Lines.{counter_text, counts_line, end_lines, flag_line, place_text, run_lines, run_numbers, totals_line};
 
 use super::runs::FindingRun;
 use crate::lines::{LineBuffer, ToLine};
-use qcow2_check::{FlagPlace, WrongFlag};
+use qcow2_check::{FlagPlace, Totals, Verdict, WrongFlag, is_l1_short, needed_l1_entries};
+use qcow2_metadata::Header;
 
 /// Clusters of which the same is found: a line for each kind that they are of.
 impl ToLine for FindingRun {
@@ -17,11 +18,11 @@ impl ToLine for FindingRun {
             prepend_numbers(&mut line, self);
             line.prepend("shared ");
         }
-        if self.is_missing() {
+        if self.first.is_missing() {
             prepend_numbers(&mut line, self);
             line.prepend("missing ");
         }
-        if self.is_leaked() {
+        if self.first.is_leaked() {
             prepend_numbers(&mut line, self);
             line.prepend("leaked ");
         }
@@ -87,4 +88,60 @@ fn prepend_place(line: &mut LineBuffer, place: FlagPlace)
         }
         FlagPlace::Offset(offset) => line.prepend_offset(offset.0),
     }
+}
+
+/// The last lines of a check that found that much of an image with this header.
+pub(super) fn end_lines(totals: &Totals, header: &Header) -> LineBuffer
+    ensures { result ≡ end_lines header.now totals.now }
+{
+    if !is_l1_short(header) {
+        return totals_line(totals);
+    }
+    let mut lines = counts_line(totals);
+    lines.prepend("\n");
+    lines.prepend_decimal(needed_l1_entries(header));
+    lines.prepend(" ");
+    lines.prepend_decimal(header.l1_table_entries() as u64);
+    lines.prepend("short-l1 ");
+    lines
+}
+
+// The last line where the L1 table is long enough.
+fn totals_line(totals: &Totals) -> LineBuffer
+    ensures { result ≡ totals_line totals.now }
+{
+    match totals.found_verdict() {
+        Verdict::Fine => consistent_line(),
+        Verdict::Harmless => counts_line(totals),
+        Verdict::Harmful => counts_line(totals),
+    }
+}
+
+// How many clusters and flags of each kind there are.
+fn counts_line(totals: &Totals) -> LineBuffer
+    ensures text { result ≡ counts_line totals.now }
+    ensures bound { length result ≤ 150 }
+{
+    let mut line = LineBuffer::new();
+    line.prepend("\n");
+    line.prepend_decimal(totals.late_flags);
+    line.prepend(" late ");
+    line.prepend_decimal(totals.false_flags);
+    line.prepend(" false ");
+    line.prepend_decimal(totals.shared);
+    line.prepend(" shared ");
+    line.prepend_decimal(totals.missing);
+    line.prepend(" missing ");
+    line.prepend_decimal(totals.leaked);
+    line.prepend("leaked ");
+    line
+}
+
+// The line for an image of which nothing is found.
+fn consistent_line() -> LineBuffer
+    ensures { result ≡ codes "consistent\n" }
+{
+    let mut line = LineBuffer::new();
+    line.prepend("consistent\n");
+    line
 }

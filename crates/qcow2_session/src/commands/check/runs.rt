@@ -1,7 +1,6 @@
 //! Findings of neighbouring clusters, joined to runs.
 
-ghost use Rattle.std.specs.Prelude.{◌≡◌, ◌+◌, ◌^◌, ◌<◌, if◌then◌else◌};
-ghost use Rattle.qcow2_session.specs.Commands.Check.Totals.{is_leaked, is_missing};
+ghost use Rattle.std.specs.Prelude.{◌≡◌, ◌+◌, ◌^◌, ◌<◌};
 ghost use Rattle.qcow2_session.specs.Commands.Check.Runs.{goes_on, single};
 
 use qcow2_base::{Fault, Storage};
@@ -19,31 +18,10 @@ pub struct FindingRun {
 
 impl FindingRun {
     // The run of one finding.
-    pub(super) fn new(first: Finding) -> FindingRun
+    fn new(first: Finding) -> FindingRun
         ensures { result ≡ single first }
     {
         FindingRun { first, count: 1 }
-    }
-
-    // Whether the counter of the clusters is greater than their number of uses.
-    pub(super) fn is_leaked(&self) -> bool
-        ensures { result ≡ is_leaked self.now.first }
-    {
-        self.first.uses < self.first.counter
-    }
-
-    // Whether it is smaller.
-    pub(super) fn is_missing(&self) -> bool
-        ensures { result ≡ is_missing self.now.first }
-    {
-        self.first.counter < self.first.uses
-    }
-
-    // How many clusters of the run are of a kind, if all of them are or none.
-    pub(super) fn clusters_if(&self, is_kind: bool) -> u64
-        ensures { result ≡ (if is_kind then self.now.count else 0) }
-    {
-        if is_kind { self.count } else { 0 }
     }
 
     // Whether a finding is of the cluster after the run, and the same but for that.

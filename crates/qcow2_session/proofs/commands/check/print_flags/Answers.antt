@@ -1,10 +1,11 @@
 use Rattle.std.proofs.Common.{◌∷◌, ◌++◌, [], Ok, inl, inr, ap, rules, ◌∙◌}
 use Rattle.std.proofs.lemmas.Result.{err_from_is_err_and}
 use Rattle.qcow2_check.proofs.FindingsLemmas.{reads_twice}
+use Rattle.qcow2_check.proofs.TotalsLemmas.{items-more, known-before, totals-flag}
 use Rattle.qcow2_check.specs.Flags.{TakesFlag, flags_left}
-use Rattle.qcow2_session.proofs.CheckLemmas.{items-more, known-before, lines-ended, lines-failed, lines-more, totals-flag}
+use Rattle.qcow2_check.specs.Totals.{with_flag}
+use Rattle.qcow2_session.proofs.CheckLemmas.{lines-ended, lines-failed, lines-more}
 use Rattle.qcow2_session.specs.Commands.Check.Lines.{flag_line}
-use Rattle.qcow2_session.specs.Commands.Check.Totals.{with_flag}
 use Rattle.qcow2_session.proofs.commands.check.print_flags.Goals as goal
 
 pub returns-in_err-flag-clause-prints : goal.returns-in_err-flag-clause-prints

@@ -2,9 +2,9 @@ use Rattle.std.proofs.Common.{◌≡◌, ◌++◌, List, Ok, flat_map}
 use Rattle.std.specs.Io.KnownBytes.{Appends}
 use Rattle.qcow2_base.specs.Storage.{OnImage, OnlyReads}
 use Rattle.qcow2_check.specs.Flags.{IsFlagsOf, MovesFlags, flags_left, flag_steps}
+use Rattle.qcow2_check.specs.Totals.{with_flags}
 use Rattle.qcow2_check.specs.declared.flags.WrongFlag.{WrongFlag}
 use Rattle.qcow2_session.specs.Commands.Check.Lines.{flag_line}
-use Rattle.qcow2_session.specs.Commands.Check.Totals.{with_flags}
 use Rattle.qcow2_session.proofs.commands.check.print_flags.Given as goal
 
 -- the flags before those that are left are printed and counted

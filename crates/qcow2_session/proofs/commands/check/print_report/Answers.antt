@@ -3,11 +3,11 @@ use Rattle.std.proofs.lemmas.Result.{err_from_is_err_and}
 use Rattle.qcow2_base.specs.Storage.{Image}
 use Rattle.qcow2_check.specs.Findings.{image_findings, tables_of}
 use Rattle.qcow2_check.specs.Flags.{flags_left, image_flags}
-use Rattle.qcow2_session.proofs.CheckLemmas.{lines-as, lines-no_more, lines-then, reads_for-fault, reads_for-twice, runs-begin, text-lines, totals-mean}
+use Rattle.qcow2_check.specs.Totals.{finding_totals, totals_on, with_flags}
+use Rattle.qcow2_session.proofs.CheckLemmas.{all-begin, lines-as, lines-no_more, lines-then, reads_for-fault, reads_for-twice, runs-begin, text-lines, totals-mean}
 use Rattle.qcow2_session.specs.Commands.Check.Lines.{end_lines, flag_line, run_lines}
 use Rattle.qcow2_session.specs.Commands.Check.Runs.{RunsState, runs_of, runs_left}
-use Rattle.qcow2_session.specs.Commands.Check.Totals.{run_totals, with_flags}
-use Rattle.qcow2_session.specs.declared.commands.check.totals.Totals.{Totals}
+use Rattle.qcow2_check.specs.declared.totals.Totals.{Totals}
 use Rattle.qcow2_session.proofs.commands.check.print_report.Goals as goal
 
 pub returns-in_err-totals-clause-prints : goal.returns-in_err-totals-clause-prints
@@ -19,7 +19,7 @@ returns-in_err-totals-clause-prints g c =
     let contents = g.O.Write.contents in
     let runs = λ (bytes : Image). flat_map run_lines (runs_of (image_findings tables bytes)) in
     let flags = λ (bytes : Image). flat_map flag_line (image_flags tables bytes) in
-    let totals = λ (bytes : Image). end_lines tables.header (with_flags (run_totals (runs_of (image_findings tables bytes))) (image_flags tables bytes)) in
+    let totals = λ (bytes : Image). end_lines tables.header (totals_on tables bytes) in
     let fault = c.in_err-totals.field-0.0 in
     rw (exit.1, exit.2) (lines-no_more {A = Totals} fault (λ bytes. runs bytes ++ flags bytes) totals contents state now c.args.out.now c.print_runs.new.out
     (lines-no_more {A = Totals} {B = Totals} fault runs flags contents state now c.args.out.now c.print_runs.new.out
@@ -36,7 +36,7 @@ returns-in_err-totals-2-clause-prints g c =
     let contents = g.O.Write.contents in
     let runs = λ (bytes : Image). flat_map run_lines (runs_of (image_findings tables bytes)) in
     let flags = λ (bytes : Image). flat_map flag_line (image_flags tables bytes) in
-    let totals = λ (bytes : Image). end_lines tables.header (with_flags (run_totals (runs_of (image_findings tables bytes))) (image_flags tables bytes)) in
+    let totals = λ (bytes : Image). end_lines tables.header (totals_on tables bytes) in
     let fault = c.in_err-totals-2.field-0.0 in
     let read = c.in_ok-totals.ensures.storage in
     let same : tables_of c.into_findings.result ≡ tables = ap tables_of c.into_findings.ensures ∙ ap tables_of c.in_ok-totals.ensures.reader.same ∙ ap (λ (r : RunsState). tables_of r.findings) c.new-runs.ensures in
@@ -64,7 +64,7 @@ returns-clause-prints g c =
     let contents = g.O.Write.contents in
     let runs = λ (bytes : Image). flat_map run_lines (runs_of (image_findings tables bytes)) in
     let flags = λ (bytes : Image). flat_map flag_line (image_flags tables bytes) in
-    let totals = λ (bytes : Image). end_lines tables.header (with_flags (run_totals (runs_of (image_findings tables bytes))) (image_flags tables bytes)) in
+    let totals = λ (bytes : Image). end_lines tables.header (totals_on tables bytes) in
     let read = c.in_ok-totals.ensures.storage in
     let later = c.in_ok-totals-2.ensures.storage in
     let same : tables_of c.into_findings.result ≡ tables = ap tables_of c.into_findings.ensures ∙ ap tables_of c.in_ok-totals.ensures.reader.same ∙ ap (λ (r : RunsState). tables_of r.findings) c.new-runs.ensures in
@@ -76,8 +76,9 @@ returns-clause-prints g c =
     let two = lines-as (Ok c.in_ok-totals-2.totals) (λ bytes. flat_map flag_line (flags_left found bytes)) flags contents mid now c.print_runs.new.out c.print_flags.new.out
     (ap (flat_map flag_line) (begins mid.byte_at)) c.in_ok-totals-2.ensures.prints in
     let both = lines-then c.in_ok-totals.totals (Ok c.in_ok-totals-2.totals) runs flags contents state mid now c.args.out.now c.print_runs.new.out c.print_flags.new.out read.device.tells read.bytes one two in
-    let means = totals-mean c.in_ok-totals.totals c.in_ok-totals-2.totals (λ bytes. runs_of (image_findings tables bytes)) (λ bytes. image_flags tables bytes) state mid now
-    read.device.tells read.bytes later.device.tells later.bytes (λ told. c.in_ok-totals.ensures.totals told ∙ ap run_totals starts)
+    let means = totals-mean c.in_ok-totals.totals c.in_ok-totals-2.totals tables (λ bytes. image_flags tables bytes) state mid now
+    read.device.tells read.bytes later.device.tells later.bytes (λ told. c.in_ok-totals.ensures.totals told
+    ∙ ap finding_totals (all-begin c.new-runs.result c.args.findings state.byte_at c.new-runs.ensures c.requires.begun))
     (λ told. c.in_ok-totals-2.ensures.totals told ∙ ap (with_flags c.in_ok-totals.totals) (begins mid.byte_at)) in
     let three = text-lines c.print_end.result (end_lines c.args.header.now c.in_ok-totals-2.totals) totals contents now now c.print_flags.new.out c.print_end.new.out
     (λ told. ap (λ header. end_lines header c.in_ok-totals-2.totals) (sym c.requires.header) ∙ ap (end_lines tables.header) (means told)) c.print_end.ensures.text in

@@ -1,10 +1,12 @@
 use Rattle.std.proofs.Common.{◌∷◌, ◌++◌, [], Ok, inl, inr, ap, rules, ◌∙◌}
 use Rattle.std.proofs.lemmas.Result.{err_from_is_err_and}
 use Rattle.qcow2_check.proofs.FindingsLemmas.{moves_twice, reads_twice}
-use Rattle.qcow2_session.proofs.CheckLemmas.{items-more, known-before, lines-ended, lines-failed, lines-more, totals-run}
+use Rattle.qcow2_check.proofs.TotalsLemmas.{items-more, known-before}
+use Rattle.qcow2_check.specs.Totals.{with_clusters}
+use Rattle.qcow2_session.proofs.CheckLemmas.{lines-ended, lines-failed, lines-more}
+use Rattle.qcow2_session.proofs.RunsLemmas.{totals-all, totals-run}
 use Rattle.qcow2_session.specs.Commands.Check.Lines.{run_lines}
-use Rattle.qcow2_session.specs.Commands.Check.Runs.{TakesFirst, runs_left}
-use Rattle.qcow2_session.specs.Commands.Check.Totals.{with_run}
+use Rattle.qcow2_session.specs.Commands.Check.Runs.{TakesFirst, all_left, runs_left}
 use Rattle.qcow2_session.proofs.commands.check.print_runs.Goals as goal
 
 pub returns-in_err-run-clause-prints : goal.returns-in_err-run-clause-prints
@@ -69,9 +71,21 @@ loop-run-preserved g c =
             printed.0 ++ (c.in-Some.run' ∷ []),
             items-more (runs_left c.args.runs.now state.byte_at) printed.0 (runs_left left state.byte_at) (runs_left later state.byte_at) c.in-Some.run' printed.1 is,
             lines-more run_lines printed.0 c.in-Some.run' _ _ _ printed.2 (rw c.to_line.ensures at (rw c.as_bytes.ensures at c.in_ok-print.ensures.text)),
-            c.in_ok-totals.ensures.totals ∙ ap (λ totals. with_run totals c.in-Some.run') printed.3 ∙ totals-run printed.0 c.in-Some.run',
+            c.in_ok-totals.ensures.totals ∙ ap (λ totals. with_clusters totals c.in-Some.run'.first c.in-Some.run'.count) printed.3 ∙ totals-run printed.0 c.in-Some.run',
           );
       kept = λ told. rw kept.storage.bytes at (c.in_ok-run.ensures.reader.kept (rw kept.storage.device.tells told));
       reader = moves_twice state now c.args.runs.now.findings left.findings later.findings kept.storage kept.reader c.in_ok-run.ensures.reader;
       storage = reads_twice left.findings.position c.in_ok-run.field-0 later.findings.position state now (g.S.Storage.state c.next.new.image) kept.storage (search rules);
     }
+
+pub returns-clause-totals : goal.returns-clause-totals
+returns-clause-totals g c = λ told.
+    let kept = c.loop-run.invariant in
+    let state = g.S.Storage.state c.args.image.now in
+    let now = g.S.Storage.state c.loop-run.image in
+    let left = c.loop-run.runs in
+    let later = c.next.new.self in
+    let printed = kept.printed told in
+    let taken : TakesFirst (runs_left left state.byte_at) (runs_left later state.byte_at) (Ok c.in_ok-run.field-0) =
+    known-before (λ bytes. TakesFirst (runs_left left bytes) (runs_left later bytes) (Ok c.in_ok-run.field-0)) state now kept.storage.device.tells kept.storage.bytes c.in_ok-run.ensures.run told in
+    totals-all (all_left c.args.runs.now state.byte_at) printed.0 (runs_left left state.byte_at) c.loop-run.totals printed.1 (rw c.in_default.is at taken) printed.3

@@ -2,9 +2,9 @@ use Rattle.std.proofs.Common.{◌≡◌, ◌++◌, List, Ok, flat_map}
 use Rattle.std.specs.Io.KnownBytes.{Appends}
 use Rattle.qcow2_base.specs.Storage.{OnImage, OnlyReads}
 use Rattle.qcow2_check.specs.Findings.{IsFindingsOf, MovesFindings}
+use Rattle.qcow2_session.proofs.RunsLemmas.{run_totals}
 use Rattle.qcow2_session.specs.Commands.Check.Lines.{run_lines}
 use Rattle.qcow2_session.specs.Commands.Check.Runs.{most_left, runs_left}
-use Rattle.qcow2_session.specs.Commands.Check.Totals.{run_totals}
 use Rattle.qcow2_session.specs.declared.commands.check.runs.FindingRun.{FindingRun}
 use Rattle.qcow2_session.proofs.commands.check.print_runs.Given as goal
 

@@ -1,8 +1,9 @@
-use Rattle.std.proofs.Common.{Ok, rules}
+use Rattle.std.proofs.Common.{◌∷◌, ◌++◌, [], Ok, rules, ap, ◌∙◌}
 use Rattle.qcow2_check.proofs.FindingsLemmas.{moves_twice, reads_twice}
+use Rattle.qcow2_check.proofs.TotalsLemmas.{items-more, known-before, totals-finding}
 use Rattle.qcow2_check.specs.Findings.{TakesFinding, findings_left}
-use Rattle.qcow2_session.proofs.AccountLemmas.{found-all, found-end, found-totals, found-within}
-use Rattle.qcow2_session.proofs.CheckLemmas.{known-before}
+use Rattle.qcow2_check.specs.Totals.{with_clusters}
+use Rattle.qcow2_session.proofs.AccountLemmas.{found-all, found-end, found-within}
 use Rattle.qcow2_session.proofs.commands.check.account.count_findings.Goals as goal
 
 pub loop-finding-preserved : goal.loop-finding-preserved
@@ -13,11 +14,14 @@ loop-finding-preserved g c =
     let left = c.loop-finding.findings in
     let later = c.next.new.self in
     record {
-      totals = λ told.
+      counted = λ told.
+          let counted = kept.counted told in
           let taken : TakesFinding (findings_left left state.byte_at) (findings_left later state.byte_at) (Ok c.in_ok-finding.field-0) =
-          known-before (λ bytes. TakesFinding (findings_left left bytes) (findings_left later bytes) (Ok c.in_ok-finding.field-0)) state now kept.storage.device.tells kept.storage.bytes c.in_ok-finding.ensures.finding told in
-          found-totals c.loop-finding.found.totals c.in_ok-found.found.totals c.in-Some.finding (findings_left left state.byte_at) (findings_left later state.byte_at)
-          (findings_left c.args.findings.now state.byte_at) c.in_ok-found.ensures.totals (rw c.in-Some.is at taken) (kept.totals told);
+          known-before (λ bytes. TakesFinding (findings_left left bytes) (findings_left later bytes) (Ok c.in_ok-finding.field-0)) state now kept.storage.device.tells kept.storage.bytes c.in_ok-finding.ensures.finding told in (
+            counted.0 ++ (c.in-Some.finding ∷ []),
+            items-more (findings_left c.args.findings.now state.byte_at) counted.0 (findings_left left state.byte_at) (findings_left later state.byte_at) c.in-Some.finding counted.1 (rw c.in-Some.is at taken),
+            c.in_ok-found.ensures.totals ∙ ap (λ totals. with_clusters totals c.in-Some.finding 1) counted.2 ∙ totals-finding counted.0 c.in-Some.finding,
+          );
       end = λ told.
           let taken : TakesFinding (findings_left left state.byte_at) (findings_left later state.byte_at) (Ok c.in_ok-finding.field-0) =
           known-before (λ bytes. TakesFinding (findings_left left bytes) (findings_left later bytes) (Ok c.in_ok-finding.field-0)) state now kept.storage.device.tells kept.storage.bytes c.in_ok-finding.ensures.finding told in
@@ -40,6 +44,7 @@ returns-clause-found g c =
       λ told.
           let taken : TakesFinding (findings_left left state.byte_at) (findings_left later state.byte_at) (Ok c.in_ok-finding.field-0) =
           known-before (λ bytes. TakesFinding (findings_left left bytes) (findings_left later bytes) (Ok c.in_ok-finding.field-0)) state now kept.storage.device.tells kept.storage.bytes c.in_ok-finding.ensures.finding told in
-          found-all c.args.findings.now state.byte_at c.loop-finding.found.totals c.args.limit c.loop-finding.found.end (findings_left left state.byte_at)
-          c.requires.begun c.requires.limit (rw c.in_default.is at taken) (kept.totals told) (kept.end told),
+          let counted = kept.counted told in
+          found-all c.args.findings.now state.byte_at c.loop-finding.found.totals c.args.limit c.loop-finding.found.end counted.0 (findings_left left state.byte_at)
+          c.requires.begun c.requires.limit (rw c.in_default.is at taken) counted.1 counted.2 (kept.end told),
     )

@@ -1,20 +1,19 @@
-use Rattle.std.proofs.Common.{◌≡◌, ◌-◌, ◌≤◌, Ok}
+use Rattle.std.proofs.Common.{◌≡◌, ◌-◌, ◌≤◌, ◌++◌, List, Ok}
 use Rattle.qcow2_base.specs.Format.{max_file_length}
 use Rattle.qcow2_base.specs.Storage.{OnImage, OnlyReads}
 use Rattle.qcow2_summary.proofs.ImageEndLemmas.{last_below}
 use Rattle.qcow2_check.specs.Findings.{IsFindingsOf, MovesFindings, findings_left}
-use Rattle.qcow2_session.proofs.AccountLemmas.{both}
-use Rattle.qcow2_session.specs.Commands.Check.Runs.{runs_of}
-use Rattle.qcow2_session.specs.Commands.Check.Totals.{run_totals}
+use Rattle.qcow2_check.specs.Totals.{finding_totals}
+use Rattle.qcow2_check.specs.declared.findings.Finding.{Finding}
 use Rattle.qcow2_session.proofs.commands.check.account.count_findings.Given as goal
 
--- what is found so far and what is left make all
+-- the findings before those that are left are counted, and the end of all is found by theirs
 abbrev pub invariant-loop-finding : goal.invariant-loop-finding
 invariant-loop-finding g l =
     let old = g.S.Storage.state l.fn.image in
     record {
-      totals : OnImage old (λ bytes. both l.found.totals (run_totals (runs_of (findings_left l.findings bytes)))
-          ≡ run_totals (runs_of (findings_left l.fn.findings bytes)));
+      counted : OnImage old (λ bytes. (counted : List Finding)
+          × (findings_left l.fn.findings bytes ≡ counted ++ findings_left l.findings bytes) × (l.found.totals ≡ finding_totals counted));
       end : OnImage old (λ bytes. last_below l.limit l.found.end (findings_left l.findings bytes)
           ≡ last_below l.limit 0 (findings_left l.fn.findings bytes));
       within : l.found.end ≤ l.limit;

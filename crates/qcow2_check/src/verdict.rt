@@ -1,7 +1,7 @@
-//! What a run found of its image, and the status for it.
+//! What a check thinks of an image as a whole, and the status for it.
 
 ghost use Rattle.std.specs.Prelude.{◌≡◌};
-ghost use Rattle.qcow2_session.specs.Commands.Verdict.{status_of_verdict};
+ghost use Rattle.qcow2_check.specs.Verdict.{status_of_verdict};
 
 /// What a run found of its image. Every command but `check` returns `Fine`.
 #[derive(Clone, Copy, Debug, PartialEq, Eq)]

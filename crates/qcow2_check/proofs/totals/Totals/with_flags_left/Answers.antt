@@ -1,9 +1,9 @@
 use Rattle.std.proofs.Common.{◌∷◌, ◌++◌, [], Ok, rules, ap, ◌∙◌}
 use Rattle.qcow2_check.proofs.FindingsLemmas.{reads_twice}
+use Rattle.qcow2_check.proofs.TotalsLemmas.{items-more, known-before, totals-flag}
 use Rattle.qcow2_check.specs.Flags.{TakesFlag, flags_left}
-use Rattle.qcow2_session.proofs.CheckLemmas.{items-more, known-before, totals-flag}
-use Rattle.qcow2_session.specs.Commands.Check.Totals.{with_flag}
-use Rattle.qcow2_session.proofs.commands.check.account.count_flags.Goals as goal
+use Rattle.qcow2_check.specs.Totals.{with_flag}
+use Rattle.qcow2_check.proofs.totals.Totals.with_flags_left.Goals as goal
 
 pub loop-flag-preserved : goal.loop-flag-preserved
 loop-flag-preserved g c =
@@ -20,7 +20,7 @@ loop-flag-preserved g c =
           let is = rw c.in-Some.is at taken in (
             counted.0 ++ (c.in-Some.flag ∷ []),
             items-more (flags_left c.args.flags.now state.byte_at) counted.0 (flags_left left state.byte_at) (flags_left later state.byte_at) c.in-Some.flag counted.1 is,
-            c.in_ok-totals.ensures.totals ∙ ap (λ totals. with_flag totals c.in-Some.flag) counted.2 ∙ totals-flag c.args.totals counted.0 c.in-Some.flag,
+            c.in_ok-totals.ensures.totals ∙ ap (λ totals. with_flag totals c.in-Some.flag) counted.2 ∙ totals-flag c.args.self counted.0 c.in-Some.flag,
           );
       kept = λ told. rw kept.storage.bytes at (c.in_ok-flag.ensures.reader.kept (rw kept.storage.device.tells told));
       reader = record {

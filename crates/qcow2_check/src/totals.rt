@@ -1,0 +1,151 @@
+//! How much a check finds of each kind, and what is to be thought of it.
+
+ghost use Rattle.std.specs.Prelude.{◌≡◌, ◌+◌, if◌then◌else◌, IfErr, IfOk, IsOkUnless};
+ghost use Rattle.qcow2_base.specs.Storage.{OnImage, OnlyReads};
+ghost use Rattle.qcow2_base.specs.declared.fault.Fault.TheVariants.{NoMemory};
+ghost use Rattle.qcow2_check.specs.Findings.{IsLaterFault};
+ghost use Rattle.qcow2_check.specs.Flags.{IsFlagsOf, MovesFlags, flags_left};
+ghost use Rattle.qcow2_check.specs.Totals.{corruptions_in, harms_nobody, no_totals, verdict_in, verdict_of, with_clusters, with_flag, with_flags};
+
+use crate::findings::Finding;
+use crate::flags::{Flags, WrongFlag};
+use crate::l1_length::is_l1_short;
+use crate::verdict::Verdict;
+use qcow2_base::{Fault, Storage};
+use qcow2_metadata::Header;
+
+/// How many clusters and flags a check found of each kind. A cluster may be of several.
+#[derive(Clone, Copy, Debug, PartialEq, Eq)]
+pub struct Totals {
+    /// How many clusters have a counter that is greater than their number of uses.
+    pub leaked: u64,
+    /// How many have a smaller one.
+    pub missing: u64,
+    /// How many have uses that exclude each other.
+    pub shared: u64,
+    /// How many copied flags are set in an entry whose cluster has a counter other than 1.
+    pub false_flags: u64,
+    /// How many aren't set, though the counter is 1 or there is none.
+    pub late_flags: u64,
+}
+
+// The sum of two numbers. No image has that many clusters or flags that it doesn't fit.
+fn sum(total: u64, more: u64) -> Result<u64, Fault>
+    ensures fault { IsOkUnless result NoMemory }
+    ensures sum { IfOk result (λ sum. sum ≡ total + more) }
+{
+    total.checked_add(more).ok_or(Fault::NoMemory)
+}
+
+// That many clusters where they are of a kind, else none.
+fn count_if(is_kind: bool, count: u64) -> u64
+    ensures { result ≡ (if is_kind then count else 0) }
+{
+    if is_kind { count } else { 0 }
+}
+
+impl Totals {
+    /// Nothing was found yet.
+    pub fn new() -> Totals
+        ensures { result ≡ no_totals }
+    {
+        Totals {
+            leaked: 0,
+            missing: 0,
+            shared: 0,
+            false_flags: 0,
+            late_flags: 0,
+        }
+    }
+
+    /// These, and that many clusters, of each of which the same is found. Fails where a sum doesn't fit 64
+    /// bits, by 35.
+    pub fn with_clusters(self, finding: &Finding, count: u64) -> Result<Totals, Fault>
+        ensures fault { IsOkUnless result NoMemory }
+        ensures totals { IfOk result (λ totals. totals ≡ with_clusters self finding.now count) }
+    {
+        Ok(Totals {
+            leaked: sum(self.leaked, count_if(finding.is_leaked(), count))?,
+            missing: sum(self.missing, count_if(finding.is_missing(), count))?,
+            shared: sum(self.shared, count_if(finding.shared, count))?,
+            ..self
+        })
+    }
+
+    /// These, and a flag. Fails where a sum doesn't fit 64 bits, by 35.
+    pub fn with_flag(self, flag: &WrongFlag) -> Result<Totals, Fault>
+        ensures fault { IsOkUnless result NoMemory }
+        ensures totals { IfOk result (λ totals. totals ≡ with_flag self flag.now) }
+    {
+        Ok(Totals {
+            false_flags: sum(self.false_flags, u64::from(flag.is_set))?,
+            late_flags: sum(self.late_flags, u64::from(!flag.is_set))?,
+            ..self
+        })
+    }
+
+    /// These, and the wrong flags that a reader comes to yet.
+    ///
+    /// Fails where the storage does or memory runs out. Changes no byte.
+    pub fn with_flags_left<S: Storage>(
+        self,
+        flags: &mut Flags<'_>,
+        image: &mut S,
+    ) -> Result<Totals, Fault>
+        requires { OnImage (S.state image.old) (λ bytes. IsFlagsOf bytes flags.old) }
+        ensures totals { IfOk result (λ totals. OnImage (S.state image.old) (λ bytes.
+            totals ≡ with_flags self (flags_left flags.old bytes))) }
+        ensures reader { MovesFlags (S.state image.old) flags.old flags.new }
+        ensures fault { IfErr result (IsLaterFault (S.state image.old)) }
+        ensures storage { OnlyReads result (S.state image.old) (S.state image.new) }
+    {
+        let mut totals = self;
+        while let Some(flag) = flags.next(image)? {
+            totals = totals.with_flag(&flag)?;
+        }
+        Ok(totals)
+    }
+
+    /// How many of these are corruptions in an image with this header: those that QEMU counts, and one
+    /// more where the L1 table is too short for the disk, of which QEMU opens no image. Fails where the sum
+    /// doesn't fit 64 bits, by 35.
+    #[tactic(auto, unfolding(crate::specs::Totals::corruptions_in))]
+    pub fn corruptions(&self, header: &Header) -> Result<u64, Fault>
+        ensures fault { IsOkUnless result NoMemory }
+        ensures sum { IfOk result (λ sum. sum ≡ corruptions_in header.now self.now) }
+    {
+        let found = sum(sum(self.missing, self.false_flags)?, self.late_flags)?;
+        sum(found, u64::from(is_l1_short(header)))
+    }
+
+    // Whether nothing was found that may destroy data.
+    fn harms_nobody(&self) -> bool
+        ensures { result ≡ harms_nobody self.now }
+    {
+        self.missing == 0 && self.shared == 0 && self.false_flags == 0
+    }
+
+    /// What is to be thought of an image of which this was found, whatever its header says.
+    pub fn found_verdict(&self) -> Verdict
+        ensures { result ≡ verdict_of self.now }
+    {
+        if !self.harms_nobody() {
+            Verdict::Harmful
+        } else if self.leaked == 0 && self.late_flags == 0 {
+            Verdict::Fine
+        } else {
+            Verdict::Harmless
+        }
+    }
+
+    /// What is to be thought of an image with this header. An L1 table that is too short for the disk hides
+    /// references, so what seems to be leaked may be in use.
+    pub fn verdict(&self, header: &Header) -> Verdict
+        ensures { result ≡ verdict_in header.now self.now }
+    {
+        if is_l1_short(header) {
+            return Verdict::Harmful;
+        }
+        self.found_verdict()
+    }
+}
