@@ -1,0 +1,304 @@
+"""What `qmeta check` must print of an image, and what its repair must leave.
+
+It is a second reading of the definitions in docs/FORMAT.md, for images of features that the program knows, and shares
+nothing with it.
+"""
+
+import json
+import re
+from collections import Counter
+from itertools import groupby
+from typing import NamedTuple, Optional
+
+from .draft import put_entry, put_refcount
+from .faults import L1_SHORT, OVERLAP, REFCOUNT_RANGE, TABLE_PLACE, UNCOUNTED
+from .image import COMPRESSED, COPIED, ENTRY_SIZE, GREATEST_END, LUKS, SECTOR, ZERO, Entry, Image, Refused
+
+# The kinds of lines, in the order of the last one, and those that may destroy data.
+KINDS = ("leaked", "missing", "shared", "false", "late")
+HARMFUL = {"missing", "shared", "false"}
+
+
+def examine(image, to_repair):
+    """Reads all parts of an image in the order of a check. Raises what this refuses before any line."""
+    header = image.header
+    if header.nb_snapshots or header.crypt_method >= LUKS:
+        raise Refused(UNCOUNTED)
+    if to_repair and header.is_l1_short:
+        raise Refused(L1_SHORT)
+    spans = table_spans(image)
+    if to_repair and any(is_past_end(image, *span) for span in spans):
+        raise Refused(TABLE_PLACE)
+    if any(offset + header.cluster_size > GREATEST_END for offset in image.refcount_blocks.values()):
+        raise Refused(TABLE_PLACE)
+    image.read()
+
+
+def table_spans(image):
+    """The host offset and the length of each table and refcount block."""
+    header = image.header
+    spans = [(header.l1_table_offset, ENTRY_SIZE * header.l1_size)]
+    spans += [(header.refcount_table_offset, header.refcount_table_clusters * header.cluster_size)]
+    offsets = [*image.l2_offsets(), *image.refcount_blocks.values()]
+    return spans + [(offset, header.cluster_size) for offset in offsets]
+
+
+def is_past_end(image, offset, length):
+    """Whether bytes have a cluster past the file's end. The file's last one may be cut."""
+    clusters_of = image.header.clusters_of
+    return length > 0 and clusters_of(offset + length) > clusters_of(image.length)
+
+
+class Flag(NamedTuple):
+    """The copied flag of an entry in a table at a host offset, its place in words, and whether a refcount is for it."""
+
+    entry: Entry
+    table: int
+    place: str
+    is_counted: bool
+
+
+class Check:
+    """What is wrong with an image, and what the program must print of it."""
+
+    def __init__(self, path, to_repair=False):
+        self.image = Image(path)
+        self.header = self.image.header
+        examine(self.image, to_repair)
+        self.spans = []
+        self.fixed, self.l2, self.guest = Counter(), Counter(), Counter()
+        self.count_references()
+        self.references = self.fixed + self.l2 + self.guest
+        self.totals, self.text = Counter(), ""
+        self.add_cluster_lines()
+        for flag in self.flags():
+            self.add_flag_line(flag)
+
+    def refer(self, counts, offset, length):
+        """Counts a reference to each cluster that has one of some bytes."""
+        if length:
+            self.spans.append((offset, length))
+            size = self.header.cluster_size
+            counts.update(range(offset // size, (offset + length - 1) // size + 1))
+
+    def count_references(self):
+        """Counts what refers to clusters: tables and blocks, L1 entries, and L2 entries."""
+        self.refer(self.fixed, 0, 1)
+        self.refer(self.fixed, self.header.l1_table_offset, ENTRY_SIZE * self.header.l1_size)
+        table_length = self.header.refcount_table_clusters * self.header.cluster_size
+        self.refer(self.fixed, self.header.refcount_table_offset, table_length)
+        for offset in self.image.refcount_blocks.values():
+            self.refer(self.fixed, offset, self.header.cluster_size)
+        for entry in self.image.l1_table:
+            self.refer(self.l2, entry.offset, entry.length)
+            if entry.length and not self.header.is_external:
+                for guest in self.image.l2_tables[entry.offset]:
+                    self.refer(self.guest, guest.offset, guest.length)
+
+    # What a check prints
+
+    def finding(self, cluster):
+        """The refcount of a cluster, its number of references, and whether these exclude each other."""
+        references, l2 = self.references[cluster], self.l2[cluster]
+        shared = self.fixed[cluster] > 0 and references > 1 or l2 > 0 and l2 != references
+        return self.image.refcount(cluster), references, shared
+
+    def add_cluster_lines(self):
+        """Adds the lines of clusters, of those in a row with one finding together."""
+        known = self.references.keys() | self.image.refcounts.keys()
+        findings = {cluster: self.finding(cluster) for cluster in sorted(known)}
+        wrong = [c for c, (refcount, references, shared) in findings.items() if refcount != references or shared]
+        for _, run in groupby(enumerate(wrong), lambda pair: (pair[1] - pair[0], findings[pair[1]])):
+            clusters = [cluster for _, cluster in run]
+            refcount, references, shared = findings[clusters[0]]
+            is_of_kind = {"leaked": refcount > references, "missing": refcount < references, "shared": shared}
+            for kind in filter(is_of_kind.get, is_of_kind):
+                self.text += f"{kind} {clusters[0]} {len(clusters)} {refcount} {references}\n"
+                self.totals[kind] += len(clusters)
+
+    def flags(self):
+        """The copied flags of all entries that refer to a cluster: L1 entries, each followed by its table's."""
+        for l1_entry in self.image.l1_table:
+            if l1_entry.length:
+                yield Flag(l1_entry, self.header.l1_table_offset, f"l1 {l1_entry.index}", True)
+                yield from self.flags_of_table(l1_entry)
+
+    def flags_of_table(self, l1_entry):
+        """The copied flags of an L2 table, whose compressed entries have none."""
+        for entry in self.image.l2_tables[l1_entry.offset]:
+            if entry.length and not entry.bits & COMPRESSED:
+                guest = l1_entry.index * self.header.table_entries + entry.index
+                place = f"{guest * self.header.cluster_size:#x}"
+                yield Flag(entry, l1_entry.offset, place, not self.header.is_external)
+
+    def add_flag_line(self, flag):
+        """Adds the line of a copied flag, if it is wrong."""
+        cluster = flag.entry.offset // self.header.cluster_size
+        refcount = self.image.refcount(cluster) if flag.is_counted else "none"
+        is_set = flag.entry.bits & COPIED != 0
+        if is_set != (refcount in (1, "none")):
+            kind = "false" if is_set else "late"
+            self.text += f"{kind} {flag.place} {cluster} {refcount}\n"
+            self.totals[kind] += 1
+
+    def printed(self):
+        """What the program prints, and then its status where that isn't 0."""
+        header = self.header
+        if not self.totals and not header.is_l1_short:
+            return "consistent\n"
+        short = f"short-l1 {header.l1_size} {header.l1_needed}\n" if header.is_l1_short else ""
+        last = " ".join(f"{kind} {self.totals[kind]}" for kind in KINDS)
+        return f"{self.text}{short}{last}\n{self.status()}"
+
+    def status(self):
+        """The line of its status, where that isn't 0."""
+        if self.header.is_l1_short or HARMFUL & self.totals.keys():
+            return "status 4\n"
+        return "status 3\n" if self.totals else ""
+
+    def object(self, name):
+        """What it prints of an image whose file has this name with the word json, and then its status."""
+        header, totals = self.header, self.totals
+        known = self.references.keys() | self.image.refcounts.keys()
+        last = max(cluster for cluster in known if cluster < GREATEST_END // header.cluster_size)
+        counts = self.entry_counts()
+        members = {
+            "image-end-offset": (last + 1) * header.cluster_size,
+            "compressed-clusters": counts["compressed"],
+            "total-clusters": header.guest_clusters,
+            "corruptions": totals["missing"] + totals["false"] + totals["late"] + header.is_l1_short,
+            "check-errors": 0,
+            "leaks": totals["leaked"],
+            "shared": totals["shared"],
+            "false-flags": totals["false"],
+            "late-flags": totals["late"],
+            "allocated-clusters": counts["allocated"],
+            "filename": name,
+            "format": "qcow2",
+            "fragmented-clusters": counts["fragmented"],
+        }
+        told = {name: value for name, value in members.items() if value or name == "check-errors"}
+        return json_text(told) + self.status()
+
+    def entry_counts(self):
+        """How many entries are allocated, compressed and fragmented, in all tables as often as they are named."""
+        counts, size = Counter(), self.header.cluster_size
+        for l1_entry in self.image.l1_table:
+            if l1_entry.length:
+                entries = [entry for entry in self.image.l2_tables[l1_entry.offset] if entry.length]
+                standard = [entry.offset for entry in entries if not entry.bits & COMPRESSED]
+                breaks = sum(after != before + size for before, after in zip(standard, standard[1:]))
+                compressed = len(entries) - len(standard)
+                counts.update(allocated=len(entries), compressed=compressed, fragmented=compressed + breaks)
+        return counts
+
+    def differences(self):
+        """Why `qemu-img check` counts otherwise: rows of the table in docs/DIFFERENCES.md, by what is in the image."""
+        image, header, references = self.image, self.header, self.references
+        size, length = header.cluster_size, -(-image.length // SECTOR) * SECTOR
+        end = max(header.clusters_of(length), max(references) + 1)
+        entries = [entry for table in image.l2_tables.values() for entry in table]
+        compressed = (entry.bits & COMPRESSED for entry in entries)
+        cases = {
+            "past the end": any(offset + span - length >= size for offset, span in self.spans),
+            "counters past the end": any(cluster >= end for cluster in image.refcounts),
+            "past the greatest counter": max(references.values()) > header.greatest_refcount,
+            "uses of a block": any(references[offset // size] > 1 for offset in image.refcount_blocks.values()),
+            "only copied": any(not entry.length for entry in image.l1_table),
+            "compressed data outside": header.is_external and any(compressed),
+            "zeros of the first cluster": header.is_external and any(entry.bits == COPIED | ZERO for entry in entries),
+        }
+        return [name for name, holds in cases.items() if holds]
+
+    def clusters_of_lines(self):
+        """The clusters of the lines that the program prints, the last line aside."""
+        for words in map(str.split, self.text.splitlines()):
+            if words[0] in ("false", "late"):
+                yield int(words[-2])
+            else:
+                yield from range(int(words[1]), int(words[1]) + int(words[2]))
+
+    # What a repair makes of it
+
+    def refusal(self):
+        """The fault that a repair ends in, if it does: that of the first cluster that it can't make right."""
+        for cluster in sorted(self.references):
+            _, references, shared = self.finding(cluster)
+            if shared:
+                return OVERLAP
+            if references > self.header.greatest_refcount and self.image.block_of(cluster) is not None:
+                return REFCOUNT_RANGE
+        return None
+
+    def repaired(self, before):
+        """The bytes of the image after a repair, by those before it. They reach to its last table or block."""
+        image, header = self.image, self.header
+        ends = [offset + header.cluster_size for offset in [*image.l2_tables, *image.refcount_blocks.values()]]
+        stored = bytearray(before).ljust(max([*ends, 0]), b"\0")
+        for cluster in self.references.keys() | image.refcounts.keys():
+            block = image.block_of(cluster)
+            if block is not None:
+                put_refcount(stored, block, header, cluster % header.block_refcounts, self.references[cluster])
+        for flag in self.flags():
+            self.put_flag(stored, flag)
+        return stored
+
+    def put_flag(self, stored, flag):
+        """Makes a flag right: set where its cluster has one reference, or lies in an external data file."""
+        entry, cluster = flag.entry, flag.entry.offset // self.header.cluster_size
+        if not flag.is_counted or self.image.block_of(cluster) is not None:
+            is_set = not flag.is_counted or self.references[cluster] == 1
+            put_entry(stored, flag.table, entry.index, entry.bits & ~COPIED | is_set * COPIED)
+
+
+def json_text(members):
+    """An object as QEMU prints it: characters other than printable ASCII are escaped, in capital letters."""
+    text = json.dumps(members, indent=4)
+    return re.sub(r"\\u([0-9a-f]{4})", lambda found: "\\u" + found[1].upper(), text).replace("\x7f", "\\u007F") + "\n"
+
+
+class Printed(NamedTuple):
+    """What `qmeta check` must print of an image, for people and in JSON, and why `qemu-img check` counts otherwise."""
+
+    text: str
+    json: str
+    differences: list
+
+
+def printed_by_check(path):
+    """What `qmeta check` must print of an image, which it is given by its name alone."""
+    try:
+        check = Check(path)
+    except Refused as refused:
+        fault = f"qmeta: fault {refused.fault}\nstatus 1\n"
+        return Printed(fault, fault, ["refused"])
+    return Printed(check.printed(), check.object(path.name), check.differences())
+
+
+class Repair(NamedTuple):
+    """What a repair must make of an image: the fault that it ends in, or the bytes that it leaves, from a place on."""
+
+    fault: Optional[int]
+    bytes: bytes
+    first: int = 0
+
+
+def repair_of(path, before):
+    """What `qmeta check IMAGE repair` must make of an image, which has these bytes.
+
+    The first cluster isn't looked at where the header has autoclear features, since it is written anew.
+    """
+    try:
+        check = Check(path, to_repair=True)
+    except Refused as refused:
+        return Repair(refused.fault, before)
+    fault = check.refusal()
+    if fault:
+        return Repair(fault, before)
+    return Repair(None, check.repaired(before), check.header.cluster_size if check.header.autoclear_features else 0)
+
+
+def uncounted_is_left(path):
+    """Whether all that is wrong with an image is of clusters that no block counts."""
+    check = Check(path)
+    return all(check.image.block_of(cluster) is None for cluster in check.clusters_of_lines())

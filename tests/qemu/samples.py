@@ -1,0 +1,165 @@
+"""Images of many options, which QEMU's tools make and fill. They are the same in each run."""
+
+import random
+from typing import NamedTuple
+
+from .image import BACKING_FORMAT, Image
+from .tools import create_image, fill_image, take_snapshot
+
+# What befell a guest cluster, as commands of qemu-io. Zeros have a host cluster where data was there or the
+# image is preallocated, but those of `hole` have none.
+HISTORIES = {
+    "none": [],
+    "data": ["write"],
+    "part": ["write part"],
+    "compressed": ["write -c"],
+    "rewritten": ["write -c", "write part"],
+    "zero": ["write -z"],
+    "kept": ["write", "write -z"],
+    "hole": ["write", "write -z -u"],
+    "discarded": ["write", "discard"],
+}
+PLAIN = "none data part zero kept hole discarded"
+
+# Guest data is written from files: so much of a cluster can't be compressed, and the rest are zeros.
+PATTERNS = (0.0, 0.3, 0.8)
+
+
+class Sample(NamedTuple):
+    """An image to be made: its options and size, what befalls its clusters, and what else is done to it."""
+
+    name: str
+    options: str
+    size: str
+    histories: str = PLAIN + " compressed rewritten"
+    has_snapshot: bool = False
+    forgets_format: bool = False
+
+    @property
+    def is_external(self):
+        """Whether the guest's data lies in a file of its own."""
+        return "data_file=" in self.options
+
+    @property
+    def is_backed(self):
+        """Whether it has a backing file."""
+        return "backing_file" in self.options
+
+
+SAMPLES = [
+    # clusters of 512 bytes: an L2 table maps 32 KiB
+    Sample("small-1", "cluster_size=512", "1M"),
+    Sample("small-2", "cluster_size=512,compat=0.10", "8M"),
+    Sample("small-3", "cluster_size=512,refcount_bits=1", "2999808"),
+    Sample("small-4", "cluster_size=512,refcount_bits=64", "1G"),
+    Sample("small-5", "cluster_size=512", "4608"),
+    # 4 KiB: 2 MiB
+    Sample("middle-1", "cluster_size=4k", "10M"),
+    Sample("middle-2", "cluster_size=4k,compat=0.10", "33555968"),
+    Sample("middle-3", "cluster_size=4k,refcount_bits=1", "64G"),
+    Sample("middle-4", "cluster_size=4k,refcount_bits=64", "5000192"),
+    # 64 KiB: 512 MiB
+    Sample("usual-1", "", "64G"),
+    Sample("usual-2", "compat=0.10", "64G"),
+    Sample("usual-3", "refcount_bits=1", "10G"),
+    Sample("usual-4", "refcount_bits=64", "1610613248"),
+    Sample("empty", "", "3G", "none"),
+    # 2 MiB: 512 GiB
+    Sample("large-1", "cluster_size=2M", "64G"),
+    Sample("large-2", "cluster_size=2M,compat=0.10", "20972032"),
+    Sample("large-3", "cluster_size=2M,refcount_bits=1", "1G"),
+    Sample("large-4", "cluster_size=2M,refcount_bits=64", "2T"),
+    # all clusters have a host cluster from the start
+    Sample("preallocated-1", "preallocation=metadata", "16M", PLAIN),
+    Sample("preallocated-2", "preallocation=metadata,cluster_size=4k,compat=0.10", "3M", PLAIN),
+    Sample("preallocated-3", "preallocation=metadata,cluster_size=512,refcount_bits=1", "300K", PLAIN),
+    Sample("preallocated-4", "preallocation=metadata,cluster_size=2M", "40M", PLAIN),
+    # backing files
+    Sample("backed-1", "backing_file=base.raw,backing_fmt=raw", "64M"),
+    Sample("backed-2", "backing_file=base.qcow2,backing_fmt=qcow2,cluster_size=4k", "1G"),
+    Sample("backed-3", "backing_file=bäse.raw,backing_fmt=raw,cluster_size=512", "3M"),
+    Sample("backed-4", "backing_file=base.raw,backing_fmt=raw", "2G", forgets_format=True),
+    Sample("backed-5", "backing_file=base.qcow2,backing_fmt=qcow2", "2M", forgets_format=True),
+    Sample("backed-6", "backing_file=base.raw,backing_fmt=raw,compat=0.10", "64M"),
+    Sample("backed-7", "backing_file=base.qcow2,backing_fmt=qcow2,compat=0.10", "64M", forgets_format=True),
+    # guest data in a file of its own, which holds nothing compressed
+    Sample("external-1", "data_file=external-1.data", "1G", PLAIN),
+    Sample("external-2", "data_file=external-2.data,data_file_raw=on", "10M", PLAIN),
+    Sample("external-3", "data_file=external-3.data,cluster_size=4k,refcount_bits=1", "5M", PLAIN),
+    Sample("external-4", "data_file=external-4.data,preallocation=metadata,cluster_size=512", "1M", PLAIN),
+    # clusters with two references
+    Sample("snapshot-1", "", "64G", has_snapshot=True),
+    Sample("snapshot-2", "cluster_size=512,refcount_bits=64", "3M", has_snapshot=True),
+    Sample("snapshot-3", "cluster_size=4k,compat=0.10", "100M", has_snapshot=True),
+]
+
+
+def make_backing_files(folder):
+    """Makes the files that samples refer to."""
+    for name in ("base.raw", "bäse.raw"):
+        create_image(folder / name, "2M", image_format="raw")
+        fill_image(folder / name, ["write -P 7 64k 1M"], image_format="raw")
+    create_image(folder / "base.qcow2", "32M", "cluster_size=512")
+    fill_image(folder / "base.qcow2", ["write -P 7 0 300k", "write -z 1M 70k", "write -P 8 31M 1M"])
+
+
+def make_sample(sample, folder):
+    """Makes a sample, gives some clusters histories, compressed data first, and returns its path."""
+    path = folder / f"{sample.name}.qcow2"
+    create_image(path, sample.size, sample.options)
+    header = Image(path).header
+    for number in range(len(PATTERNS)):
+        (folder / f"pattern-{number}").write_bytes(pattern(number, header.cluster_size))
+    clusters = touched_clusters(header)
+    chance = random.Random(sample.name)
+    histories = [(cluster, chance.choice(sample.histories.split())) for cluster in clusters]
+    chance.shuffle(histories)
+    steps = [(word, cluster) for cluster, history in histories for word in HISTORIES[history]]
+    # qemu-io 7.2 fails to write some compressed data after it freed the cluster of other such data.
+    steps.sort(key=lambda step: step[0] != "write -c")
+    fill_image(path, [command(header, *step) for step in steps])
+    if sample.has_snapshot:
+        take_snapshot(path, "first")
+        fill_image(path, [command(header, "write", cluster) for cluster in clusters[::3]])
+    if sample.forgets_format:
+        forget_format(path)
+    return path
+
+
+def pattern(number, length):
+    """The bytes of a pattern, which are written to each third guest cluster."""
+    rough = int(PATTERNS[number] * length)
+    return random.Random(f"pattern-{number}").randbytes(rough) + bytes(length - rough)
+
+
+def written_pattern(header, cluster):
+    """The bytes of a pattern that are written to a guest cluster. Past the disk's end they are zeros."""
+    written = pattern(cluster % len(PATTERNS), header.cluster_size)
+    return written[: header.size - cluster * header.cluster_size].ljust(header.cluster_size, b"\0")
+
+
+def touched_clusters(header):
+    """Runs of guest clusters at the start, where the first L2 table ends, amid the disk and at its end."""
+    count = header.guest_clusters
+    starts = (0, header.table_entries - 9, count // 3, count - 20)
+    return sorted({cluster for start in starts for cluster in range(max(start, 0), min(start + 20, count))})
+
+
+def command(header, word, cluster):
+    """The command of qemu-io for what befalls a guest cluster, within which the disk may end."""
+    start = cluster * header.cluster_size
+    length = min(header.cluster_size, header.size - start)
+    if word == "write part":
+        return f"write -P 5 {start + length // 4} {length // 2}"
+    source = f" -s pattern-{cluster % len(PATTERNS)}" if word in ("write", "write -c") else ""
+    return f"{word}{source} {start} {length}"
+
+
+def forget_format(path):
+    """Gives the header extension with the backing file's format a type that nobody knows.
+
+    qemu-img makes no image without a backing file's format any more, but there are such images.
+    """
+    with open(path, "r+b") as file:
+        file.seek(file.read(512).index(BACKING_FORMAT))
+        file.write(b"none")

@@ -1,0 +1,63 @@
+"""How long programs take, and how much memory."""
+
+import ctypes
+import os
+import subprocess
+import sys
+import time
+
+# Prints the number of a process that becomes the program once standard input ends.
+STARTER = 'exec 3<&0; { read -r _; exec "$@"; } <&3 >/dev/null & echo $!'
+
+# Linux's request that this process becomes the parent of programs whose parent ended.
+PR_SET_CHILD_SUBREAPER = 36
+
+
+def wait_for_orphans():
+    """Lets this process wait for programs that a shell started, as `peak_memory` does."""
+    if ctypes.CDLL(None, use_errno=True).prctl(PR_SET_CHILD_SUBREAPER, 1, 0, 0, 0) != 0:
+        sys.exit("this process can't wait for programs that a shell started")
+
+
+def seconds(words):
+    """How long a program takes, in seconds."""
+    start = time.perf_counter()
+    subprocess.run(words, stdout=subprocess.DEVNULL, check=True)
+    return time.perf_counter() - start
+
+
+def peak_memory(words):
+    """The peak memory of a program in KiB.
+
+    The kernel counts to it what the process had before it became the program. So a shell, which has less than
+    this process, starts the program and ends. This process becomes its parent then, and lets it begin.
+    """
+    pipes = {"stdin": subprocess.PIPE, "stdout": subprocess.PIPE}
+    with subprocess.Popen(["sh", "-c", STARTER, "sh", *words], **pipes) as shell:
+        program = int(shell.stdout.readline())
+        shell.wait()
+    _, status, usage = os.wait4(program, 0)
+    if status != 0:
+        sys.exit(f"{' '.join(map(str, words))}: status {os.waitstatus_to_exitcode(status)}")
+    return usage.ru_maxrss
+
+
+def nothing():
+    """Prepares nothing for a run."""
+
+
+def measure(works, rounds, prepare=nothing):
+    """Prints the least time of each work and its memory, and returns them. Each round runs all works once.
+
+    What a run needs is prepared before its time begins.
+    """
+
+    def prepared(run, words):
+        prepare()
+        return run(words)
+
+    times = [[prepared(seconds, words) for words in works.values()] for _ in range(rounds)]
+    measured = [(min(column), prepared(peak_memory, words)) for column, words in zip(zip(*times), works.values())]
+    for name, (least, memory) in zip(works, measured):
+        print(f"{name:16} {least * 1000:9.2f} ms {memory:7} KiB", flush=True)
+    return measured

@@ -1,0 +1,116 @@
+"""Running QEMU's tools and `qmeta`, and the arguments and folders that commands share."""
+
+import argparse
+import json
+import os
+import shutil
+import subprocess
+import sys
+import tempfile
+from pathlib import Path
+
+ROOT = Path(__file__).resolve().parents[2]
+QMETA = ROOT / "crates/qmeta/out/qmeta"
+
+# The statuses of `qemu-img check`: no error, corruptions, leaks.
+CHECK_STATUSES = (0, 2, 3)
+
+# The members of its object that count what is wrong, all 0 in an image without an error.
+CLEAN = {"leaks": 0, "corruptions": 0, "check-errors": 0}
+
+# How many characters of a failed command are shown, and of what it printed last.
+MOST_SHOWN = 400
+
+
+# Commands
+
+
+def argument_parser(description):
+    """A parser of a command's arguments, of which the first is the built program."""
+    parser = argparse.ArgumentParser(description=description)
+    parser.add_argument("qmeta", nargs="?", type=Path, default=QMETA, help="the built program")
+    return parser
+
+
+def add_jobs(parser):
+    """Adds the option of how many images are tried at once."""
+    parser.add_argument("--jobs", type=int, default=os.cpu_count(), help="how many images are tried at once")
+
+
+def missing_programs(*programs):
+    """Those of the programs that aren't there."""
+    return [str(program) for program in programs if shutil.which(program) is None]
+
+
+def stop_without(*programs):
+    """Ends the command with status 2 where one of the programs is missing, which it says."""
+    for program in missing_programs(*programs):
+        print(f"{program} is missing", file=sys.stderr)
+        sys.exit(2)
+
+
+def temporary_folder(in_memory=False):
+    """A temporary folder. It lies in memory where that can be, if its images are written again and again."""
+    memory = Path("/dev/shm")
+    return tempfile.TemporaryDirectory(dir=memory if in_memory and os.access(memory, os.W_OK) else None)
+
+
+def remove_image(path):
+    """Removes an image, and all files that have its name with another suffix."""
+    for file in path.parent.glob("*"):
+        if file.stem == path.stem:
+            file.unlink()
+
+
+# Programs
+
+
+class ToolFailed(Exception):
+    """A program ended with a status that it shouldn't have, or did what isn't understood."""
+
+
+def run(words, folder, statuses=(0,), **options):
+    """Runs a program in a folder, and returns how it ended, with what it printed.
+
+    The status must be one of these, or any where there is none. The options are those of `subprocess.run`.
+    """
+    ended = subprocess.run(words, cwd=folder, capture_output=True, encoding="utf-8", **options)
+    if statuses and ended.returncode not in statuses:
+        command, printed = " ".join(map(str, words)), ended.stdout + ended.stderr
+        raise ToolFailed(f"{command[:MOST_SHOWN]}: status {ended.returncode}: {printed[-MOST_SHOWN:]}")
+    return ended
+
+
+def qmeta_output(qmeta, path, command, *words):
+    """What `qmeta` prints for a command on an image, and its status where that isn't 0."""
+    ended = run([qmeta, command, path.name, *map(str, words)], path.parent, ())
+    status = f"status {ended.returncode}\n" if ended.returncode else ""
+    return ended.stdout + ended.stderr + status
+
+
+def create_image(path, size, options="", image_format="qcow2"):
+    """Makes an image by qemu-img."""
+    words = ["-o", options] if options else []
+    run(["qemu-img", "create", "-q", "-f", image_format, *words, path.name, str(size)], path.parent)
+
+
+def fill_image(path, commands, image_format="qcow2"):
+    """Runs commands of qemu-io on an image, whose writes needn't be waited for."""
+    text = "".join(f"{command}\n" for command in commands)
+    run(["qemu-io", "-t", "unsafe", "-f", image_format, path.name], path.parent, input=text)
+
+
+def take_snapshot(path, name):
+    """Takes a snapshot of an image's disk."""
+    run(["qemu-img", "snapshot", "-c", name, path.name], path.parent)
+
+
+def qemu_img_json(path, command, statuses=(0,)):
+    """What a command of qemu-img prints of an image in JSON."""
+    return run(["qemu-img", command, "--output=json", "-f", "qcow2", path.name], path.parent, statuses).stdout
+
+
+def qemu_check_counts(path):
+    """What `qemu-img check` counts: leaks, corruptions, and errors of the check itself."""
+    members = json.loads(qemu_img_json(path, "check", CHECK_STATUSES))
+    return {name: members.get(name, 0) for name in CLEAN}
