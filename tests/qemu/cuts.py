@@ -238,7 +238,7 @@ class CutTrial(Trial):
         leaks, errors = found_by_qemu(self.path)
         if errors or leaks and self.kind.autoclear != "bitmaps":
             self.problems.append(f"after the run: {errors} errors and {leaks} leaks")
-        if [bool(part) for part in self.parts] != [image.header.autoclear_features != 0, True, True, True]:
+        if [bool(part) for part in self.parts] != [self.kind.autoclear != "", True, True, True]:
             self.problems.append(f"not the four parts, but writes by part: {[len(part) for part in self.parts]}")
 
     def has_leaks_alone(self, words, path):

@@ -38,8 +38,8 @@ MORE_FIELDS = struct.Struct(">QQQII")
 MORE_NAMES = ("incompatible_features", "compatible_features", "autoclear_features", "refcount_order")
 HEADER_LENGTH = FIELDS.size + MORE_FIELDS.size
 
-# Where the autoclear features are in the header, and in how many bytes.
-AUTOCLEAR_OFFSET, AUTOCLEAR_LENGTH = 88, 8
+# Where the autoclear features are in the header, after two other sets of features, and how many bytes a set has.
+AUTOCLEAR_OFFSET, AUTOCLEAR_LENGTH = FIELDS.size + 2 * 8, 8
 
 # The incompatible feature of an external data file, and the autoclear feature that this file is the guest's disk.
 EXTERNAL_DATA, RAW_DATA = 1 << 2, 1 << 1
