@@ -9,7 +9,7 @@ ghost use Rattle.qcow2_apply.specs.Plan.{IsPlanFor, IsPlanOf};
 
 use crate::blocks::follow_changes;
 use crate::plan::Plan;
-use qcow2_base::{Fault, Storage};
+use qcow2_base::{Device, Fault, Storage};
 use qcow2_changes::{ChangedClusters, CounterTables};
 use qcow2_guest_edits::{GuestEdit, edit_tables};
 use qcow2_metadata::{Header, L2Table, RefBlock};
@@ -38,7 +38,7 @@ impl Workspace {
 impl Plan {
     // Makes the edits that are planned: counts what clusters gain, edits the tables, and counts what
     // clusters lose. Each part is on the device before the next begins.
-    fn make<S: Storage>(
+    fn make<S: Device>(
         &self,
         image: &mut S,
         header: &Header,
@@ -82,7 +82,7 @@ impl Plan {
 impl Plan {
     // Clears autoclear features, in the image and in its header, and makes the edits that are planned of it.
     // That is on the device before these begin.
-    fn carry_out<S: Storage>(
+    fn carry_out<S: Device>(
         &self,
         image: &mut S,
         header: &mut Header,
@@ -114,8 +114,7 @@ impl Plan {
 /// cluster by 23 where it has no counter, and by 32 where that isn't 0 or another edit maps it. Last by 30
 /// where a counter can't follow.
 ///
-/// A storage doesn't know where its image ends. Who does calls `refuse_tables_past_end` of `qcow2_repair`
-/// first.
+/// Where the image ends isn't looked at: `refuse_tables_past_end` of `qcow2_repair` does.
 ///
 /// Then autoclear features are cleared, in the header too. What clusters gain is counted before tables are
 /// edited, and what they lose after that, each on the device before the next begins. So where no cluster is
@@ -124,7 +123,7 @@ impl Plan {
 /// and any bytes may be in one table or block. So the call must not be made again: check the image, and
 /// repair it. In such an image no byte has changed after any other fault. Memory is taken before the first
 /// write, so after 35 no byte has changed in any image.
-pub fn apply_edits<S: Storage>(
+pub fn apply_edits<S: Device>(
     alloc: Global,
     image: &mut S,
     header: &mut Header,

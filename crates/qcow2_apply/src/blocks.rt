@@ -12,7 +12,7 @@ ghost use Rattle.qcow2_changes.specs.CounterTables.{BlockFollows, BlockIsStuck, 
 ghost use Rattle.qcow2_guest_edits.specs.Passes.{ArePlacesApart, KeepsOutside, StepsAt, TearsOne};
 ghost use Rattle.qcow2_apply.specs.Blocks.{FollowsChanges, IsStuckAt, SomeIsStuck, StopsFollowing, blocks};
 
-use qcow2_base::{Fault, HostCluster, Storage};
+use qcow2_base::{Device, Fault, HostCluster, Storage};
 use qcow2_changes::parts::follow;
 use qcow2_changes::{Changes, CounterTables};
 use qcow2_check::named_block;
@@ -91,7 +91,7 @@ fn follow_at<S: Storage>(
 /// All that a cluster gained is counted before what it lost. Returns 30 where a counter can't count both so.
 /// After a fault some counters may have followed, so the call must not be made again; where the storage
 /// failed, any bytes may be in one block besides.
-pub fn follow_changes<S: Storage>(
+pub fn follow_changes<S: Device>(
     image: &mut S,
     tables: &CounterTables<'_>,
     block: &mut RefBlock,

@@ -2,7 +2,7 @@
 
 use crate::small_image::{BLOCK, Numbers, OTHER_BLOCK, small_image};
 use qcow2_apply::{Changes, CounterTables, follow_changes};
-use qcow2_base::{ClusterCount, Fault, HostCluster, Storage};
+use qcow2_base::{ClusterCount, Device, Fault, HostCluster};
 use qcow2_check::Counters;
 use qcow2_edits::Outcome;
 use qcow2_metadata::{ClustersToFreeEntry, Header, RefBlock};
@@ -61,7 +61,7 @@ fn outcome_of(alloc: Global, gained: &[u64], lost: &[(u64, u64)]) -> Result<Outc
 }
 
 // Lets the counters of an image follow the outcome.
-fn follow<S: Storage>(alloc: Global, image: &mut S, outcome: &Outcome) -> Result<(), Fault> {
+fn follow<S: Device>(alloc: Global, image: &mut S, outcome: &Outcome) -> Result<(), Fault> {
     let header = Header::load(alloc, image, false)?;
     if header.external_data_file() {
         return Err(Fault::ExternalData);

@@ -1,7 +1,7 @@
 //! A small image with two L2 tables and two refcount blocks.
 
 use qcow2_apply::{GuestEdit, apply_edits};
-use qcow2_base::{Fault, MemStorage, Storage};
+use qcow2_base::{Device, Fault, MemStorage, Storage};
 use qcow2_metadata::Header;
 use qcow2_summary::is_consistent;
 use qcow2_testing::{image_with, put_all};
@@ -94,7 +94,7 @@ pub(crate) fn header_of<S: Storage>(alloc: Global, image: &mut S) -> Result<Head
 }
 
 /// Makes edits of a disk, without the clauses of the call.
-pub(crate) fn apply<S: Storage>(
+pub(crate) fn apply<S: Device>(
     alloc: Global,
     image: &mut S,
     header: &mut Header,

@@ -2,7 +2,7 @@
 
 use crate::small_image::{COPIED, L1_TABLE, L2_TABLE, Numbers, OTHER_TABLE, small_image};
 use qcow2_apply::{EditsByTable, GuestEdit, edit_tables, first_unfit};
-use qcow2_base::{Fault, GuestOffset, HostCluster, Storage};
+use qcow2_base::{Device, Fault, GuestOffset, HostCluster};
 use qcow2_check::load_l1_table;
 use qcow2_metadata::{Header, L2Table};
 use qcow2_testing::{StorageCall, each, recorded, rows, same, same_image};
@@ -70,7 +70,7 @@ const EDITED: &[Edited<'static>] = rows! { Edited:
 };
 
 /// Makes edits in the tables of an image.
-pub(crate) fn edit<S: Storage>(
+pub(crate) fn edit<S: Device>(
     alloc: Global,
     image: &mut S,
     edits: &[GuestEdit],

@@ -6,7 +6,7 @@ pub mod ImageFile
 pub mod ImageFiles
 pub mod Memory
 pub mod Slice
-use Rattle.std.specs.Prelude.{◌≡◌, ◌≢◌, ℕ, zero, suc, ◌+◌, ◌-◌, ◌*◌, ◌^◌, ◌%◌, ◌<◌, ◌≤◌, ◌↔◌, Bool, IsTrue, List, Option, Some, IfSome, Result, MatchResult, OnOk, IfErr, IsErrOf, length, nat_lt, if◌then◌else◌, slice_index, refl}
+use Rattle.std.specs.Prelude.{◌≡◌, ◌≢◌, ℕ, zero, suc, ◌+◌, ◌-◌, ◌*◌, ◌^◌, ◌%◌, ◌<◌, ◌≤◌, ◌↔◌, Bool, IsTrue, List, Option, Some, IfSome, Result, MatchResult, OnOk, IfOk, IfErr, IsErrOf, length, nat_lt, if◌then◌else◌, slice_index, refl}
 use Rattle.qcow2_base.specs.declared.fault.Fault.{Fault}
 use Rattle.qcow2_base.specs.declared.fault.Fault.TheVariants.{Storage as StorageFailed}
 
@@ -31,11 +31,12 @@ pub record SameOutside (offset len : ℕ) (old new : Image) : Type 0 where
   pub before : (o : ℕ) → o < offset → new o ≡ old o
   pub after : (o : ℕ) → offset + len ≤ o → new o ≡ old o
 
--- what is known of a storage: whether its bytes are known, these bytes, how many calls have failed modulo 2^64,
--- and its alignments
+-- what is known of a storage: whether its bytes are known, these bytes, how many there are, how many calls have failed
+-- modulo 2^64, and its alignments
 pub record StorageState : Type 0 where
   pub tells : Bool
   pub byte_at : Image
+  pub len : ℕ
   pub failures : ℕ
   pub mem_align : ℕ
   pub req_align : ℕ
@@ -63,6 +64,7 @@ pub record SameDevice (old new : StorageState) : Type 0 where
 pub record ReadsBytes {T E : Type 0} (answer : Result T E) (offset : ℕ) (bytes : List ℕ) (old new : StorageState) : Type 0 where
   pub read : OnOk answer (OnImage old (λ image. Holds image offset bytes))
   pub unchanged : new.byte_at ≡ old.byte_at
+  pub len : new.len ≡ old.len
   pub failures : CountsFailure answer old new
   pub device : SameDevice old new
 
@@ -74,22 +76,30 @@ pub record WritesBytes {T E : Type 0} (answer : Result T E) (offset : ℕ) (byte
   pub device : SameDevice old new
 
 -- a call that ended in this answer and changes no byte
-pub record Syncs {T E : Type 0} (answer : Result T E) (old new : StorageState) : Type 0 where
+pub record ChangesNoByte {T E : Type 0} (answer : Result T E) (old new : StorageState) : Type 0 where
   pub unchanged : new.byte_at ≡ old.byte_at
+  pub len : new.len ≡ old.len
   pub failures : CountsFailure answer old new
   pub device : SameDevice old new
+
+-- a question for the length of the image that ended in this answer: none where it has no end that is known
+pub record TellsEnd {E : Type 0} (answer : Result (Option ℕ) E) (old new : StorageState) : Type 0 where
+  pub end : IfOk answer (λ found. OnImage old (λ _. found ≡ Some old.len))
+  pub unchanged : ChangesNoByte answer old new
 
 -- calls that ended in this answer and only read: the storage fault is returned exactly where one of
 -- them failed, and nothing but the count of failures may differ
 pub record OnlyReads {T : Type 0} (answer : Result T Fault) (old new : StorageState) : Type 0 where
   pub told : IsErrOf answer StorageFailed ↔ (new.failures ≢ old.failures)
   pub bytes : new.byte_at ≡ old.byte_at
+  pub len : new.len ≡ old.len
   pub device : SameDevice old new
 
 -- calls that only read: where one failed, this fact holds, and nothing but the count of failures may differ
 pub record ReadsFor (told : Type 0) (old new : StorageState) : Type 0 where
   pub failed : new.failures ≢ old.failures → told
   pub bytes : new.byte_at ≡ old.byte_at
+  pub len : new.len ≡ old.len
   pub device : SameDevice old new
 
 -- the same of calls that only write, and only these bytes from a place on: where no call of the storage
@@ -100,9 +110,9 @@ pub record OnlyWrites {T : Type 0} (answer : Result T Fault) (place : Option ℕ
   pub refused : IfErr answer (λ fault. fault ≢ StorageFailed → new.byte_at ≡ old.byte_at)
   pub device : SameDevice old new
 
--- from some end on the image is zero
-abbrev pub Ends : Image → Type 0
-Ends image = (end : ℕ) × ((o : ℕ) → end ≤ o → image o ≡ 0)
+-- from an end on the image is zero
+abbrev pub EndsBy : ℕ → Image → Type 0
+EndsBy end image = (o : ℕ) → end ≤ o → image o ≡ 0
 
 -- the big-endian number of n bytes: each byte times 256 to the power of how many follow it
 unfoldable pub be : Image → ℕ → ℕ → ℕ

@@ -19,6 +19,6 @@ pub use on_disk_struct::{
     write_be, write_le,
 };
 pub use storage::{
-    FileStorage, ImageFile, ImageFiles, MemStorage, SliceStorage, Storage, StorageFault, file_len,
+    Device, FileStorage, ImageFile, ImageFiles, MemStorage, SliceStorage, Storage, StorageFault,
 };
 pub use types::{ClusterCount, GuestCluster, GuestOffset, HostCluster, HostOffset};

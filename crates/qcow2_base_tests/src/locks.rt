@@ -3,7 +3,7 @@
 mod listing;
 
 use listing::Listing;
-use qcow2_base::{Fault, ImageFiles, Storage};
+use qcow2_base::{Device, Fault, ImageFiles};
 use qcow2_locks::{FileId, FileLock, GuardedFiles, HeldImage, LockKind, Unlisted, hold_alone};
 use qcow2_testing::{each, file_holds, rows, same, temporary_file, temporary_path};
 use std::alloc::Global;
@@ -293,7 +293,7 @@ const RUNS: &[Run] = rows! { Run:
 };
 
 // Makes the calls of a run, each write of one byte more, and returns how many bytes were written.
-fn make_calls<'a, S: Storage>(
+fn make_calls<'a, S: Device>(
     image: &mut S,
     lists: &Listing<'a>,
     steps: &[Step<'a>],

@@ -7,7 +7,7 @@ mod large_files;
 mod real_files;
 mod slices;
 
-use qcow2_base::{MemStorage, Storage, StorageFault};
+use qcow2_base::{Device, MemStorage, Storage, StorageFault};
 use qcow2_testing::{FailingStorage, each, holds, printed, rows, same, same_bytes};
 use std::alloc::Global;
 use std::fmt::Debug;
@@ -147,6 +147,20 @@ fn a_sync_changes_nothing_and_a_failed_one_is_counted(rt: HostRuntime) -> Result
     same(storage.failures, 1, "failures")?;
     same(storage.inner.sync(), Ok(()), "in memory")?;
     same_bytes(storage.inner.bytes(), &[1, 2, 3], "after all")?;
+    check_failures(rt.alloc(), &storage.inner, 0)
+}
+
+// What a storage over three bytes says of its length before, at and after a question that is planned to fail,
+// and once two bytes more are written.
+#[test]
+fn a_length_is_asked_for_and_a_failed_question_is_counted(rt: HostRuntime) -> Result<(), Fail> {
+    let mut storage = FailingStorage::new(rt.alloc(), memory(rt.alloc(), &[1, 2, 3])?);
+    storage.plan = Some(1);
+    let answers = (storage.len(), storage.len(), storage.len());
+    same(answers, (Ok(Some(3)), Err(StorageFault), Ok(Some(3))), "three calls")?;
+    same(storage.failures, 1, "failures")?;
+    write(&mut storage, &[7, 8], 3)?;
+    same(storage.len(), Ok(Some(5)), "after a write")?;
     check_failures(rt.alloc(), &storage.inner, 0)
 }
 

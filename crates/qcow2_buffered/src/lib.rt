@@ -3,13 +3,13 @@
 
 ghost use Rattle.std.specs.Prelude.{◌≡◌, ◌+◌, ◌^◌, ◌<◌, ◌≤◌, IfOk, IsTrue, OnOk, length};
 ghost use Rattle.qcow2_base.specs.Format.{max_file_length};
-ghost use Rattle.qcow2_base.specs.Storage.{Holds, OnImage, ReadsBytes, StorageState, Syncs, WritesBytes};
+ghost use Rattle.qcow2_base.specs.Storage.{ChangesNoByte, Holds, OnImage, ReadsBytes, StorageState, TellsEnd, WritesBytes};
 ghost use Rattle.qcow2_buffered.specs.Pages.{ArePages};
 
 mod pages;
 
 use pages::Page;
-use qcow2_base::{MAX_FILE_LENGTH, Storage, StorageFault};
+use qcow2_base::{Device, MAX_FILE_LENGTH, Storage, StorageFault};
 use std::alloc::{AllocError, Global};
 
 // How many pages are kept. Three reads that go on in turn, each in a part of the image of its own, find
@@ -178,12 +178,6 @@ impl<S: Storage> Storage for BufferedStorage<S> {
         self.inner.write(buf, offset)
     }
 
-    fn sync(&mut self) -> Result<(), StorageFault>
-        ensures { Syncs result (buffered_state S.state self.old) (buffered_state S.state self.new) }
-    {
-        self.inner.sync()
-    }
-
     ghost mem_align_is_power = { λ storage. S.mem_align_is_power storage.inner };
 
     ghost req_align_is_power = { λ storage. S.req_align_is_power storage.inner };
@@ -191,4 +185,20 @@ impl<S: Storage> Storage for BufferedStorage<S> {
     ghost byte_fits = { λ storage offset. S.byte_fits storage.inner offset };
 
     ghost ends = { λ storage. S.ends storage.inner };
+}
+
+impl<S: Device> Device for BufferedStorage<S> {
+    ghost use Rattle.qcow2_buffered.specs.Buffered.{buffered_state};
+
+    fn sync(&mut self) -> Result<(), StorageFault>
+        ensures { ChangesNoByte result (buffered_state S.state self.old) (buffered_state S.state self.new) }
+    {
+        self.inner.sync()
+    }
+
+    fn len(&mut self) -> Result<Option<u64>, StorageFault>
+        ensures { TellsEnd result (buffered_state S.state self.old) (buffered_state S.state self.new) }
+    {
+        self.inner.len()
+    }
 }

@@ -2,7 +2,7 @@
 
 ghost use Rattle.std.specs.Prelude.{◌≡◌, ℕ, ◌+◌, ◌<◌, ◌≤◌, None, Some, IfOk, IsTrue, OnOk, length, slice_index};
 ghost use Rattle.qcow2_base.specs.Format.{max_file_length};
-ghost use Rattle.qcow2_base.specs.Storage.{ReadsBytes, Syncs};
+ghost use Rattle.qcow2_base.specs.Storage.{ChangesNoByte, ReadsBytes};
 ghost use Rattle.qcow2_buffered.specs.Pages.{IsPage};
 
 use qcow2_base::{Storage, StorageFault};
@@ -63,7 +63,7 @@ impl Page {
         requires { start + length self.old.bytes.items ≤ max_file_length }
         ensures page { IsPage (length self.old.bytes.items) (S.state storage.old) self.new }
         ensures start { OnOk result (self.new.start ≡ Some start) }
-        ensures storage { Syncs result (S.state storage.old) (S.state storage.new) }
+        ensures storage { ChangesNoByte result (S.state storage.old) (S.state storage.new) }
     {
         self.start = None;
         storage.read(&mut self.bytes, start)?;

@@ -221,9 +221,9 @@ all-counted tables end entries blocks last c bits is entries_is blocks_is at = e
 -- calls that only read, and then one that reads nothing and whose only fault is memory
 pub reads-no-more : {T U : Type 0} (x : T) (answer : Result U Fault) (old new : StorageState) → OnlyReads (Ok x) old new → IsOkUnless answer NoMemory
     → OnlyReads answer old new
-reads-no-more x (Ok value) old new reads fine = record { told = grind (arith, nat_tests, reads.told); bytes = reads.bytes; device = reads.device }
+reads-no-more x (Ok value) old new reads fine = record { told = grind (arith, nat_tests, reads.told); bytes = reads.bytes; len = reads.len; device = reads.device }
 reads-no-more x (Err fault) old new reads fine =
-    record { told = grind (arith, nat_tests, reads.told, fine); bytes = reads.bytes; device = reads.device }
+    record { told = grind (arith, nat_tests, reads.told, fine); bytes = reads.bytes; len = reads.len; device = reads.device }
 
 -- a fact of an Ok that follows from another
 pub on-ok : {T : Type 0} (answer : Result T Fault) (P Q : Type 0) → (P → Q) → OnOk answer P → OnOk answer Q
@@ -236,6 +236,7 @@ pub reads-then : {T U V : Type 0} (x : T) (fault : Fault) (a b d : StorageState)
 reads-then x fault a b d one other = record {
   told = grind (arith, one.told, other.told);
   bytes = other.bytes ∙ one.bytes;
+  len = other.len ∙ one.len;
   device = record {
     tells = other.device.tells ∙ one.device.tells;
     mem_align = other.device.mem_align ∙ one.device.mem_align;

@@ -1,6 +1,6 @@
 //! A small image that is consistent, changes of it, and the calls that are tested, without their clauses.
 
-use qcow2_base::{Fault, HostCluster, MemStorage, Storage};
+use qcow2_base::{Device, Fault, HostCluster, MemStorage, Storage};
 use qcow2_check::{Counters, Finding, Findings, WrongFlag};
 use qcow2_metadata::Header;
 use qcow2_repair::repair_image;
@@ -143,7 +143,7 @@ pub(crate) fn is_image_consistent<S: Storage>(alloc: Global, image: &mut S) -> R
 }
 
 /// Repairs an image.
-pub(crate) fn repaired<S: Storage>(alloc: Global, image: &mut S) -> Result<(), Fault> {
+pub(crate) fn repaired<S: Device>(alloc: Global, image: &mut S) -> Result<(), Fault> {
     let header = header_of(alloc, image)?;
     repair_image(alloc, image, header)?;
     Ok(())

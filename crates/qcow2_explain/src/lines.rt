@@ -7,7 +7,7 @@ ghost use Rattle.qcow2_base.specs.declared.fault.Fault.TheVariants.{Storage as S
 use super::files::file_lines;
 use super::locks::lock_lines;
 use super::refusals::{Refusal, refusal_of};
-use qcow2_base::{Fault, FileStorage, Storage, file_len};
+use qcow2_base::{Device, Fault, FileStorage};
 use qcow2_buffered::BufferedStorage;
 use qcow2_metadata::Header;
 use std::alloc::{AllocError, Global};
@@ -52,21 +52,17 @@ fn locate_in_file<R: Files + AllocGlobal>(
     number: u64,
     path: &str,
 ) -> Result<String, Fault> {
-    let length = match number {
-        21 => file_len(rt, path)?,
-        _ => None,
-    };
     let mut file = FileStorage::open(rt, path, false)?;
     match Header::load(rt.alloc(), &mut file, false) {
         Ok(header) => {
             let Ok(mut image) = BufferedStorage::new(rt.alloc(), file, header.cluster_size()) else {
                 return Err(Fault::NoMemory);
             };
-            locate_within(rt.alloc(), &mut image, number, path, length)
+            locate_fault(rt.alloc(), &mut image, number, path)
         }
         Err(Fault::NoMemory) => Err(Fault::NoMemory),
         Err(Fault::Storage) => Err(Fault::Storage),
-        Err(_) => locate_within(rt.alloc(), &mut file, number, path, length),
+        Err(_) => locate_fault(rt.alloc(), &mut file, number, path),
     }
 }
 
@@ -74,10 +70,10 @@ fn locate_in_file<R: Files + AllocGlobal>(
 /// and a colon. An image that doesn't have the fault has one line that says so, or says which other one comes
 /// first.
 ///
-/// Looks at the header, for 18 to 21 at all tables but those of snapshots, and for 30, 38 and 40 at counters
-/// too. Changes no byte of the image. Returns fault 34 where a read of the image fails, and 35 where memory
+/// Looks at the header, for 18 to 21 at all tables but those of snapshots, for 21 at the image's end, and for
+/// 30, 38 and 40 at counters too. Changes no byte of the image. Returns fault 34 where a read of the image fails, and 35 where memory
 /// runs out.
-pub fn locate_fault<S: Storage>(
+pub fn locate_fault<S: Device>(
     alloc: Global,
     image: &mut S,
     number: u64,
@@ -85,19 +81,10 @@ pub fn locate_fault<S: Storage>(
 ) -> Result<String, Fault>
     ensures storage { ReadsFor (IsErrOf result StorageFailed) (S.state image.old) (S.state image.new) }
 {
-    locate_within(alloc, image, number, name, None)
-}
-
-// The same of an image in a file, whose length may be known.
-fn locate_within<S: Storage>(
-    alloc: Global,
-    image: &mut S,
-    number: u64,
-    name: &str,
-    length: Option<u64>,
-) -> Result<String, Fault>
-    ensures storage { ReadsFor (IsErrOf result StorageFailed) (S.state image.old) (S.state image.new) }
-{
+    let length = match number {
+        21 => image.len()?,
+        _ => None,
+    };
     let lines = match refusal_of(alloc, image, number, length)? {
         Some(refusal) => lines_of(alloc, number, name, &refusal)?,
         None => format!(in alloc; "in {name}: this image doesn't have this fault\n")?,

@@ -3,7 +3,7 @@
 
 ghost use Rattle.std.specs.Prelude.{◌≡◌, ◌+◌, ◌^◌, ◌%◌, IsErr};
 
-use qcow2_base::{Storage, StorageFault};
+use qcow2_base::{Device, Storage, StorageFault};
 
 /// How long an image gets at most, in bytes.
 pub(crate) const MOST_BYTES: u64 = 1 << 20;
@@ -38,7 +38,7 @@ impl<S> BoundedStorage<S> {
     }
 
     // Counts one more failed call.
-    fn fail(&mut self) -> Result<(), StorageFault>
+    fn fail<T>(&mut self) -> Result<T, StorageFault>
         ensures err { IsErr result }
         ensures counted { self.new ≡ record self.old { failures = (self.old.failures + 1) % 2 ^ 64 } }
     {
@@ -75,13 +75,6 @@ impl<S: Storage> Storage for BoundedStorage<S> {
         self.fail()
     }
 
-    fn sync(&mut self) -> Result<(), StorageFault> {
-        if let Ok(()) = self.inner.sync() {
-            return Ok(());
-        }
-        self.fail()
-    }
-
     ghost mem_align_is_power = { λ b. S.mem_align_is_power b.inner };
 
     ghost req_align_is_power = { λ b. S.req_align_is_power b.inner };
@@ -89,4 +82,20 @@ impl<S: Storage> Storage for BoundedStorage<S> {
     ghost byte_fits = { λ b offset. S.byte_fits b.inner offset };
 
     ghost ends = { λ b. S.ends b.inner };
+}
+
+impl<S: Device> Device for BoundedStorage<S> {
+    fn sync(&mut self) -> Result<(), StorageFault> {
+        if let Ok(()) = self.inner.sync() {
+            return Ok(());
+        }
+        self.fail()
+    }
+
+    fn len(&mut self) -> Result<Option<u64>, StorageFault> {
+        if let Ok(len) = self.inner.len() {
+            return Ok(len);
+        }
+        self.fail()
+    }
 }

@@ -199,11 +199,12 @@ reread-fault g of cluster image fault is within faults memory exact =
     )
 
 -- states of a storage that agree in all are one
-same-state : (a b : StorageState) → b.tells ≡ a.tells → b.byte_at ≡ a.byte_at → b.failures ≡ a.failures → b.mem_align ≡ a.mem_align
+same-state : (a b : StorageState) → b.tells ≡ a.tells → b.byte_at ≡ a.byte_at → b.len ≡ a.len → b.failures ≡ a.failures → b.mem_align ≡ a.mem_align
     → b.req_align ≡ a.req_align → b ≡ a
-same-state a b tells bytes failures mem_align req_align = λ i. record {
+same-state a b tells bytes len failures mem_align req_align = λ i. record {
   tells = tells i;
   byte_at = bytes i;
+  len = len i;
   failures = failures i;
   mem_align = mem_align i;
   req_align = req_align i;
@@ -213,7 +214,7 @@ same-state a b tells bytes failures mem_align req_align = λ i. record {
 unread : {T : Type 0} (value : T) (old read : StorageState) → OnlyReads (Ok value) old read → read ≡ old
 unread value old read reads =
     let failures : read.failures ≡ old.failures = grind (arith, nat_tests, reads.told) in
-    same-state old read reads.device.tells reads.bytes failures reads.device.mem_align reads.device.req_align
+    same-state old read reads.device.tells reads.bytes reads.len failures reads.device.mem_align reads.device.req_align
 
 -- where nothing is written, no byte changes
 idle-writes : {T : Type 0} (value : T) (place : Option ℕ) (len : ℕ) (state : StorageState) → OnlyWrites (Ok value) place len state state

@@ -17,7 +17,7 @@ ghost use Rattle.qcow2_guest_edits.specs.Tables.{AllFit, AreMade, ComesToOutcome
 
 use crate::edits_by_table::EditsByTable;
 use crate::guest_edits::{GuestEdit, edits_at};
-use qcow2_base::{Fault, HostCluster, Storage};
+use qcow2_base::{Device, Fault, HostCluster, Storage};
 use qcow2_check::{load_l2_table, named_cluster};
 use qcow2_edits::{Edit, Outcome, edit_table};
 use qcow2_metadata::{Header, L1Table, L2Table, Table};
@@ -164,7 +164,7 @@ fn edit_at<S: Storage>(
 /// Returns the fault of the first table that can't be loaded. After a fault those before it may be edited, so
 /// the call must not be made again; where the storage failed, any bytes may be in one more. Takes time by
 /// the number of L1 entries, of tables that are read, and of clusters that are edited.
-pub fn edit_tables<S: Storage>(
+pub fn edit_tables<S: Device>(
     image: &mut S,
     header: &Header,
     l1_table: &L1Table,

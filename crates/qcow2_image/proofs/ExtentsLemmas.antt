@@ -211,7 +211,7 @@ stays_twice old new first second third reads one other = grind (arith, nat_tests
 
 -- reads that returned a value, whatever that is
 pub reads_any : {A B : Type 0} (value : A) (other : B) (old new : StorageState) → OnlyReads (Ok value) old new → OnlyReads (Ok other) old new
-reads_any value other old new reads = record { told = (λ failed. cc, λ moved. let failed = reads.told.1 moved in cc); bytes = reads.bytes; device = reads.device }
+reads_any value other old new reads = record { told = (λ failed. cc, λ moved. let failed = reads.told.1 moved in cc); bytes = reads.bytes; len = reads.len; device = reads.device }
 
 -- extents are determined by where they begin
 no_shorter : (contents : Contents) (size from length : ℕ) (content : Content) (extent : Extent) → IsExtent contents size from extent → extent.content ≡ content

@@ -4,7 +4,7 @@ ghost use Rattle.qcow2_base.specs.Storage.ImageFile.{unknown_content};
 ghost use Rattle.qcow2_base.specs.Storage.ImageFiles.{ClosesImage, unknown_file};
 
 use crate::HeldImage;
-use qcow2_base::{Fault, FileStorage, ImageFiles, file_len};
+use qcow2_base::{Fault, FileStorage, ImageFiles};
 use std::alloc::{Alloc, Allocator};
 use std::cell::Cell;
 use std::fs::{Metadata, OpenFile, OpenOptions};
@@ -190,10 +190,6 @@ impl<'a, R: Files, L: Files> ImageFiles for GuardedFiles<'a, R, L> {
     {
         let _ = path;
         drop(image);
-    }
-
-    fn image_len(&mut self, path: &str) -> Result<Option<u64>, Fault> {
-        file_len(self, path)
     }
 
     fn is_in_use(&self, path: &str) -> bool {

@@ -4,7 +4,7 @@ use Rattle.qcow2_metadata.specs.Table.OneEntry.{entry_alignment}
 
 -- a storage with these alignments
 abbrev aligned : ℕ → ℕ → StorageState
-aligned mem req = record { tells = true; byte_at = λ o. 0; failures = 0; mem_align = mem; req_align = req }
+aligned mem req = record { tells = true; byte_at = λ o. 0; len = 0; failures = 0; mem_align = mem; req_align = req }
 
 -- the greater alignment counts, eight bytes at least, as long as a cluster has as many bytes
 pub alignments :

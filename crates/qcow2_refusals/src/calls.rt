@@ -8,7 +8,7 @@ pub(crate) mod tables;
 
 use crate::held::Held;
 use crate::runs::Call;
-use qcow2_base::{Fault, Storage};
+use qcow2_base::{Device, Fault};
 use qcow2_calls::{write_header, write_l1_table_pointer, write_reftable_pointer, write_size};
 use std::fmt::Debug;
 use std::io::Write;
@@ -23,7 +23,7 @@ pub(crate) enum Answer {
 }
 
 /// Makes a call.
-pub(crate) fn make<S: Storage>(call: Call, held: &mut Held, image: &mut S) -> Answer {
+pub(crate) fn make<S: Device>(call: Call, held: &mut Held, image: &mut S) -> Answer {
     held.out.clear();
     match make_call(call, held, image) {
         Ok(()) => Answer::Done,
@@ -33,7 +33,7 @@ pub(crate) fn make<S: Storage>(call: Call, held: &mut Held, image: &mut S) -> An
     }
 }
 
-fn make_call<S: Storage>(call: Call, held: &mut Held, image: &mut S) -> Result<(), Fault> {
+fn make_call<S: Device>(call: Call, held: &mut Held, image: &mut S) -> Result<(), Fault> {
     match call {
         Call::NewHeader => headers::new(held),
         Call::LoadHeader { for_writing } => headers::load(for_writing, held, image),

@@ -199,6 +199,7 @@ refused-by-header view header fault state refused =
       storage = record {
         told = grind (arith, cause.1);
         bytes = refl;
+        len = refl;
         device = record { tells = refl; mem_align = refl; req_align = refl };
       };
     }

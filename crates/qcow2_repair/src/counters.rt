@@ -15,7 +15,7 @@ ghost use Rattle.qcow2_check.specs.Failures.{ReportsFailures};
 ghost use Rattle.qcow2_repair.specs.Counters.{BreaksOff, IsPastCounters, PassesBetween, PassesBlock, PassesCounters, block_counters, counter_towards};
 
 use crate::tables::Tables;
-use qcow2_base::{Fault, HostCluster, MAX_FILE_LENGTH, Storage};
+use qcow2_base::{Device, Fault, HostCluster, MAX_FILE_LENGTH, Storage};
 use qcow2_check::named_block;
 use qcow2_check::parts::{Tally, Windows, count_of, counted_end};
 use qcow2_metadata::{RefBlock, Table};
@@ -207,7 +207,7 @@ fn pass_from<S: Storage>(
 }
 
 /// Passes over all counters of an image with these tables, and waits until they are on the device.
-pub(crate) fn pass_all_counters<S: Storage>(
+pub(crate) fn pass_all_counters<S: Device>(
     image: &mut S,
     tables: &Tables<'_>,
     pass: CounterPass,

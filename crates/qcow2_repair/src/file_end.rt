@@ -7,30 +7,32 @@ ghost use Rattle.qcow2_check.specs.Counters.{IsTablesFault};
 ghost use Rattle.qcow2_check.specs.Uses.{image_tables};
 ghost use Rattle.qcow2_repair.specs.FileEnd.{has_all_tables, has_blocks, has_clusters, has_header_tables, has_l2_tables, has_named, tables_in_file};
 
-use qcow2_base::{ClusterCount, Fault, HostCluster, Storage};
+use qcow2_base::{ClusterCount, Device, Fault, HostCluster};
 use qcow2_check::{load_l1_table, load_reftable, named_block, named_cluster};
 use qcow2_metadata::{Header, L1Table, RefTable, Table};
 use std::alloc::Global;
 
-/// Refuses an image with this header whose file, of this length in bytes, doesn't have all tables and
-/// refcount blocks that the header and the active L1 table name. Bytes past a file's end read as zeros, so
-/// a repair would free what such a table names, and a write would lengthen the file and hide that it was
-/// cut. The file's last cluster may be cut.
+/// Refuses an image with this header that ends before a table or refcount block which the header or the
+/// active L1 table names. Bytes past the end read as zeros, so a repair would free what such a table names,
+/// and a write would lengthen the image and hide that it was cut. The last cluster may be cut. An image
+/// whose end isn't known has all.
 ///
 /// Returns the first of these faults: that of the L1 table, that of the refcount table, or 21 where a
-/// table or block has a cluster past the file's end. Changes no byte.
-pub fn refuse_tables_past_end<S: Storage>(
+/// table or block has a cluster past the end. Changes no byte.
+pub fn refuse_tables_past_end<S: Device>(
     alloc: Global,
     image: &mut S,
     header: &Header,
-    file_length: u64,
 ) -> Result<(), Fault>
-    ensures reads { Reads (λ done. done) result (tables_in_file file_length header.now)
+    ensures reads { Reads (λ done. done) result (tables_in_file (S.state image.old).len header.now)
         (IsTablesFault header.now) (S.state image.old) (S.state image.new) }
 {
     let l1_table = load_l1_table(alloc, image, header)?;
     let reftable = load_reftable(alloc, image, header)?;
-    let file = ClusterCount::from_byte_size(file_length, header.cluster_bits());
+    let Some(len) = image.len()? else {
+        return Ok(());
+    };
+    let file = ClusterCount::from_byte_size(len, header.cluster_bits());
     if has_all_tables(file, header, &l1_table, &reftable) {
         Ok(())
     } else {

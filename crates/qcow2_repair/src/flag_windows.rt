@@ -15,7 +15,7 @@ ghost use Rattle.qcow2_check.specs.Failures.{ReportsFailures};
 ghost use Rattle.qcow2_repair.specs.Flags.{BreaksOffFlags, IsL1TableOf, PassesFlags, l1_in, pass_all, pass_between};
 
 use crate::flags::FlagPass;
-use qcow2_base::{Fault, Storage};
+use qcow2_base::{Device, Fault, Storage};
 use qcow2_check::parts::{Windows, counted_end};
 use qcow2_metadata::{Header, L1Table, RefTable, Table};
 
@@ -87,7 +87,7 @@ fn pass_window<S: Storage>(
 /// Passes over all flags of an image with these tables, and keeps the L1 table as the image has it. Waits
 /// until they are on the device. There is a window in any case, since flags in an external data file depend
 /// on no counter.
-pub(crate) fn pass_all_flags<S: Storage>(
+pub(crate) fn pass_all_flags<S: Device>(
     image: &mut S,
     header: &Header,
     l1_table: &mut L1Table,

@@ -17,7 +17,7 @@ use crate::counters::{CounterPass, pass_all_counters};
 use crate::flag_windows::pass_all_flags;
 use crate::refusals::repairable_tables;
 use crate::tables::Tables;
-use qcow2_base::{Fault, Storage};
+use qcow2_base::{Device, Fault};
 use qcow2_check::load_l1_table;
 use qcow2_metadata::{Header, L1Table, RefTable};
 use std::alloc::Global;
@@ -28,7 +28,7 @@ use std::alloc::Global;
 ///
 /// Returns the header as it is then: autoclear features are cleared first, as by `Header::into_writable`.
 /// Then flags are cleared of clusters that haven't one use, counters rise, counters fall, and flags are set
-/// of clusters that have one. Nothing of a step is written before `Storage::sync` has put all of the one
+/// of clusters that have one. Nothing of a step is written before `Device::sync` has put all of the one
 /// before on the device. Nothing else changes.
 ///
 /// Returns the fault of `refuse_unrepairable` or of `Findings::new`, or of the first cluster that can't be
@@ -38,8 +38,8 @@ use std::alloc::Global;
 /// old one or that of its step. Where the storage fails, any bytes may be in the header's text besides, or
 /// in one table or block.
 ///
-/// A storage doesn't know where its image ends. Who does calls `refuse_tables_past_end` first.
-pub fn repair_image<S: Storage>(
+/// Where the image ends isn't looked at: `refuse_tables_past_end` does.
+pub fn repair_image<S: Device>(
     alloc: Global,
     image: &mut S,
     header: Header,
@@ -53,7 +53,7 @@ pub fn repair_image<S: Storage>(
 }
 
 // Makes counters and flags of an image right whose header is writable, once that is on the device.
-fn repair_written<S: Storage>(
+fn repair_written<S: Device>(
     alloc: Global,
     image: &mut S,
     header: &Header,
@@ -78,7 +78,7 @@ fn repair_written<S: Storage>(
 }
 
 // Makes counters and flags of an image with these tables right, in four passes.
-fn repair_tables<S: Storage>(
+fn repair_tables<S: Device>(
     image: &mut S,
     header: &Header,
     l1_table: &mut L1Table,
@@ -103,7 +103,7 @@ fn repair_tables<S: Storage>(
 }
 
 // Raises the counters of an image with these tables, and then lowers them.
-fn pass_both_counters<S: Storage>(
+fn pass_both_counters<S: Device>(
     image: &mut S,
     header: &Header,
     l1_table: &L1Table,

@@ -2,7 +2,7 @@ use Rattle.std.proofs.Common.{◌≡◌, ◌≢◌, ◌≤◌, ◌⊎◌, ◌∙
 use Rattle.std.specs.Bool.{IsTrue}
 use Rattle.std.specs.Io.KnownBytes.{Keeps}
 use Rattle.std.specs.Result.{IfOk, IsErr, MatchResult}
-use Rattle.qcow2_base.specs.Storage.{Image, OnlyReads, StorageState}
+use Rattle.qcow2_base.specs.Storage.{ChangesNoByte, Image, OnImage, OnlyReads, StorageState}
 use Rattle.qcow2_base.specs.Storage.File.{failures_of, file_of, file_state, state_over}
 use Rattle.qcow2_base.specs.Storage.ImageFile.{FileContent, OnFile}
 use Rattle.qcow2_base.specs.Storage.ImageFiles.{ChangesOne, ClosesImage, FailsFor, PathFile}
@@ -16,10 +16,10 @@ use Rattle.qcow2_repair.proofs.RefusalsLemmas.{header-cause, refused-is}
 use Rattle.qcow2_repair.specs.Refusals.{header_refusal}
 use Rattle.qcow2_session.proofs.PrintingLemmas.{reads-calm, run_between}
 use Rattle.qcow2_session.specs.Commands.{command_by_name, command_of, facts_of, image_name}
-use Rattle.qcow2_session.specs.Commands.Apply.{first_unfit_in_file}
+use Rattle.qcow2_session.specs.Commands.Apply.{first_unfit_within}
 use Rattle.qcow2_session.specs.Commands.Printing.{AppendsPart, OutputBytes}
 use Rattle.qcow2_session.specs.Commands.Report.{ReportsFault, fault_line}
-use Rattle.qcow2_session.specs.Commands.RunningOnFiles.{ComparesWithFile, FitsFile, IsEditsFileFault, IsLengthFor, IsRefusedInFile, IsRepairFileFault, RunsLine, RunsOnFile, RunsWords, StopsOrEnds, edits_in_file, repair_in_file, told_beside}
+use Rattle.qcow2_session.specs.Commands.RunningOnFiles.{ComparesWithEnd, FitsEnd, IsEditsEndFault, IsRefusedByEnd, IsRepairEndFault, RunsLine, RunsOnFile, RunsWords, StopsOrEnds, edits_within, repair_within, told_beside}
 use Rattle.qcow2_session.specs.Commands.Running.{AfterHeader, EndsAndFlushes, FindsHeader}
 use Rattle.qcow2_check.specs.Verdict.{status_of_verdict}
 use Rattle.qcow2_session.specs.Commands.Words.{Word, WordList}
@@ -31,27 +31,28 @@ use Rattle.qcow2_check.specs.declared.verdict.Verdict.{Verdict}
 use Rattle.qcow2_check.specs.declared.verdict.Verdict.TheVariants.{Fine}
 
 -- a run found its header, and stopped before its command
-pub stopped-before : {O : Type 0} (command : Command) (file : FileContent) (header : HeaderRecord) (fault : Fault) (contents : O → OutputBytes) (old left new : StorageState) (out : O)
+pub stopped-before : {O : Type 0} (command : Command) (header : HeaderRecord) (fault : Fault) (contents : O → OutputBytes) (old left new : StorageState) (out : O)
     → FindsHeader (facts_of command) (Ok header) old left
-    → ((fault ≡ NoMemory) × IsTrue (facts_of command).reads_all_tables) ⊎ IsRefusedInFile file command header left fault
+    → ((fault ≡ NoMemory) × IsTrue (facts_of command).reads_all_tables) ⊎ IsRefusedByEnd command header left fault
     → OnlyReads {T = Verdict} (Err fault) left new
-    → AfterHeader (facts_of command) (StopsOrEnds file command) (run_between contents (Err fault) old new out out)
-stopped-before command file header fault contents old left new out finds why reads =
+    → AfterHeader (facts_of command) (StopsOrEnds command) (run_between contents (Err fault) old new out out)
+stopped-before command header fault contents old left new out finds why reads =
     (Ok header, left, finds, inl (record { fault = why; reads = reads; output = refl }))
 
 -- calls that only read and didn't fail leave a storage as it was
 pub unmoved : {T : Type 0} (value : T) (old new : StorageState) → OnlyReads (Ok value) old new → new ≡ old
-unmoved value old new reads = grind (arith, reads.device, reads.bytes, reads-calm value old new reads)
+unmoved value old new reads = grind (arith, reads.device, reads.bytes, reads.len, reads-calm value old new reads)
 
 -- the fault of reads is that of what they were made for
 pub same-reads : {A B : Type 0} (fault : Fault) (old new : StorageState) → OnlyReads {T = A} (Err fault) old new → OnlyReads {T = B} (Err fault) old new
-same-reads fault old new reads = record { told = grind (arith, reads.told); bytes = reads.bytes; device = reads.device }
+same-reads fault old new reads = record { told = grind (arith, reads.told); bytes = reads.bytes; len = reads.len; device = reads.device }
 
 -- no call was made
 pub unread : {T : Type 0} (fault : Fault) (state : StorageState) → fault ≢ Storage → OnlyReads {T = T} (Err fault) state state
 unread fault state other = record {
   told = grind (arith, other);
   bytes = refl;
+  len = refl;
   device = record { tells = refl; mem_align = refl; req_align = refl };
 }
 
@@ -66,37 +67,39 @@ unrefused : (found : Option Fault) → unless_refused found (Ok (tt {0})) ≡ Ok
 unrefused None is = refl
 unrefused (Some fault) is = absurd (grind (arith, is))
 
--- an edit that doesn't fit the disk or the file is refused so
-pub bad-edit : (edits : List DiskEdit) (header : HeaderRecord) (len position : ℕ) (state : StorageState)
-    → unless_refused (short_l1_refusal header) (Ok (tt {0})) ≡ Ok tt → uses_external_data header ≡ false → first_unfit_in_file len header edits ≡ Some position
-    → Reads {T = Unit {0}} (λ done. done) (Err (BadEdit position)) (edits_in_file edits header len) (IsEditsFileFault edits header) state state
-bad-edit edits header len position state long inside unfit =
+-- an edit that doesn't fit the disk or the image's end is refused so, once the end is known
+pub bad-edit : (edits : List DiskEdit) (header : HeaderRecord) (len position : ℕ) (old new : StorageState)
+    → unless_refused (short_l1_refusal header) (Ok (tt {0})) ≡ Ok tt → uses_external_data header ≡ false → first_unfit_within len header edits ≡ Some position
+    → OnImage old (λ _. len ≡ old.len) → ChangesNoByte {T = ℕ} {E = Fault} (Ok len) old new
+    → Reads {T = Unit {0}} (λ done. done) (Err (BadEdit position)) (edits_within edits header old.len) (IsEditsEndFault edits header) old new
+bad-edit edits header len position old new long inside unfit ends asked =
     let none = unrefused (short_l1_refusal header) long in
-    refused-unread (λ done. done) (BadEdit position) (edits_in_file edits header len) (IsEditsFileFault edits header) state
-    (λ bytes. rw (none, inside, unfit) refl) (inr (inl (len, ap (option_map BadEdit) unfit, inside))) (λ is. grind (arith, is))
+    record {
+      exact = λ told. inr (inr (rw (none, inside, ← (ends told), unfit) refl));
+      faults = inl (inr (inl (len, ap (option_map BadEdit) unfit, inside)));
+      storage = record { told = grind (arith, asked.failures); bytes = asked.unchanged; len = asked.len; device = asked.device };
+    }
 
 -- and a header by which an image can't be repaired
 pub bad-header : (header : HeaderRecord) (len : ℕ) (fault : Fault) (state : StorageState) → unless_refused (header_refusal header) (Ok (tt {0})) ≡ Err fault
-    → Reads {T = Unit {0}} (λ done. done) (Err fault) (repair_in_file header len) (IsRepairFileFault header) state state
+    → Reads {T = Unit {0}} (λ done. done) (Err fault) (repair_within header len) (IsRepairEndFault header) state state
 bad-header header len fault state refused =
     let is = refused-is (header_refusal header) fault refused in
-    refused-unread (λ done. done) fault (repair_in_file header len) (IsRepairFileFault header) state
+    refused-unread (λ done. done) fault (repair_within header len) (IsRepairEndFault header) state
     (λ bytes. rw is refl) (inl is) (header-cause header fault is).1
 
--- edits were compared with the length of the image's file
-pub edits-compared : (file : FileContent) (form : ApplyForm) (edits : List DiskEdit) (header : HeaderRecord) (old new : StorageState) (len : ℕ) (answer : Result (Unit {0}) Fault)
-    → OnFile file (len ≡ file.len)
-    → Reads {T = Unit {0}} (λ done. done) answer (edits_in_file edits header len) (IsEditsFileFault edits header) old new
-    → ComparesWithFile file (Apply form edits) header old answer
-edits-compared file form edits header old new len (Ok done) same reads =
-    λ known told. subst (λ n. edits_in_file edits header n old.byte_at ≡ Ok tt) (same known) (reads.exact told)
-edits-compared file form edits header old new len (Err fault) same reads = record {
+-- edits were compared with the image's end
+pub edits-compared : (form : ApplyForm) (edits : List DiskEdit) (header : HeaderRecord) (old new : StorageState) (answer : Result (Unit {0}) Fault)
+    → Reads {T = Unit {0}} (λ done. done) answer (edits_within edits header old.len) (IsEditsEndFault edits header) old new
+    → ComparesWithEnd (Apply form edits) header old answer
+edits-compared form edits header old new (Ok done) reads = λ told. reads.exact told
+edits-compared form edits header old new (Err fault) reads = record {
   refusal = reads.faults;
-  known = λ known told. elim (reads.exact told) [
+  known = λ told. elim (reads.exact told) [
     | inl failed ↦ inl (inr failed)
     | inr rest ↦ elim rest [
       | inl full ↦ inl (inl full)
-      | inr refused ↦ inr (subst (λ n. edits_in_file edits header n old.byte_at ≡ Err fault) (same known) refused)
+      | inr refused ↦ inr refused
     ]
   ];
 }
@@ -108,12 +111,12 @@ placed-beside Kept None ran told errs held = tt
 placed-beside Kept (Some fault) ran told errs held = (errs held.0, held.1)
 
 -- or its command ran, over what the header left, and what it left is the image
-pub ran-between : {O : Type 0} (command : Command) (file : FileContent) (header : HeaderRecord) (answer : Result Verdict Fault) (contents : O → OutputBytes)
+pub ran-between : {O : Type 0} (command : Command) (header : HeaderRecord) (answer : Result Verdict Fault) (contents : O → OutputBytes)
     (old left begun ended new : StorageState) (before after : O)
-    → FindsHeader (facts_of command) (Ok header) old left → FitsFile file command header left → begun ≡ left → new ≡ ended
+    → FindsHeader (facts_of command) (Ok header) old left → FitsEnd command header left → begun ≡ left → new ≡ ended
     → EndsAndFlushes (facts_of command) header (run_between contents answer begun ended before after)
-    → AfterHeader (facts_of command) (StopsOrEnds file command) (run_between contents answer old new before after)
-ran-between command file header answer contents old left begun ended new before after finds fits same last ends =
+    → AfterHeader (facts_of command) (StopsOrEnds command) (run_between contents answer old new before after)
+ran-between command header answer contents old left begun ended new before after finds fits same last ends =
     rw last (
       Ok header,
       left,
@@ -121,33 +124,28 @@ ran-between command file header answer contents old left begun ended new before 
       inr (fits, subst (λ (s : StorageState). EndsAndFlushes (facts_of command) header (run_between contents answer s ended before after)) same ends),
     )
 
--- the file of a path could not be measured or opened, after calls that changed none
-pub not-opened : {O : Type 0} (command : Command) (path : Word) (old left new : Word → PathFile) (answer : Result Verdict Fault) (contents : O → OutputBytes) (out : O)
-    → answer ≡ Err Storage → left ≡ old → FailsFor path left new
+-- the file of a path could not be opened
+pub not-opened : {O : Type 0} (command : Command) (path : Word) (old new : Word → PathFile) (answer : Result Verdict Fault) (contents : O → OutputBytes) (out : O)
+    → answer ≡ Err Storage → FailsFor path old new
     → RunsOnFile command (old path) (new path) answer contents out out
-not-opened command path old left new answer contents out is same fails =
-    let failed = subst (λ (files : Word → PathFile). FailsFor path files new) same fails in
-    inl (is, failed.content, failed.counted, refl)
+not-opened command path old new answer contents out is failed = inl (is, failed.content, failed.counted, refl)
 
 -- what a run left in the open file of a path is in that once it is closed
-pub closed-file : {F O : Type 0} (known : F → FileContent) (command : Command) (path : Word) (old measured opened new : Word → PathFile) (len : Option ℕ)
+pub closed-file : {F O : Type 0} (known : F → FileContent) (command : Command) (path : Word) (old opened new : Word → PathFile)
     (begun ended : FileStorage F) (ran answer : Result Verdict Fault) (in_use : Bool) (contents : O → OutputBytes) (before after : O)
-    → IsLengthFor (old path).content command len → measured ≡ old
-    → known (file_of begun) ≡ (measured path).content → failures_of begun ≡ 0
-    → ((file : FileContent) → IsLengthFor file command len
-    → AfterHeader (facts_of command) (StopsOrEnds file command) (run_between contents ran (file_state known begun) (file_state known ended) before after))
-    → opened ≡ measured → OnFile (opened path).content (in_use ≡ false) → answer ≡ told_beside in_use ran
+    → known (file_of begun) ≡ (old path).content → failures_of begun ≡ 0
+    → AfterHeader (facts_of command) (StopsOrEnds command) (run_between contents ran (file_state known begun) (file_state known ended) before after)
+    → opened ≡ old → OnFile (opened path).content (in_use ≡ false) → answer ≡ told_beside in_use ran
     → ClosesImage known ended path opened new
     → RunsOnFile command (old path) (new path) answer contents before after
-closed-file known command path old measured opened new len begun ended ran answer in_use contents before after length same is none runs untouched alone told closes =
+closed-file known command path old opened new begun ended ran answer in_use contents before after first none runs untouched alone told closes =
     let file = (old path).content in
-    let first : known (file_of begun) ≡ file = subst (λ (files : Word → PathFile). known (file_of begun) ≡ (files path).content) same is in
-    let Ran : FileContent → ℕ → FileContent → Type 0 = λ content failures left. AfterHeader (facts_of command) (StopsOrEnds file command)
+    let Ran : FileContent → ℕ → FileContent → Type 0 = λ content failures left. AfterHeader (facts_of command) (StopsOrEnds command)
     (run_between contents ran (state_over content failures) (state_over left (failures_of ended)) before after) in
-    let over = subst (λ (content : FileContent). Ran content (failures_of begun) (known (file_of ended))) first (runs file length) in
+    let over = subst (λ (content : FileContent). Ran content (failures_of begun) (known (file_of ended))) first runs in
     let anew = subst (λ (failures : ℕ). Ran file failures (known (file_of ended))) none over in
     let left = subst (λ (content : FileContent). Ran file 0 content) (sym closes.content) anew in
-    let alone = subst (λ (files : Word → PathFile). OnFile (files path).content (in_use ≡ false)) (untouched ∙ same) alone in
+    let alone = subst (λ (files : Word → PathFile). OnFile (files path).content (in_use ≡ false)) untouched alone in
     inr (ran, in_use, alone, told, failures_of ended, λ tells. sym (closes.failures (rw closes.content at tells)), left)
 
 -- what changed after calls that changed nothing

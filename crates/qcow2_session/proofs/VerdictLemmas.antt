@@ -110,7 +110,7 @@ fine-PrintsLayout (Err fault) Svg header contents old new a b prints = record { 
 
 -- a failed call of the image is the storage fault
 pub fine-ReadsFor : (ran : Result (Unit {0}) Fault) (old new : StorageState) → ReadsFor (IsErrOf ran Storage) old new → ReadsFor (IsErrOf (fine_unless_failed ran) Storage) old new
-fine-ReadsFor ran old new reads = record { failed = λ moved. fine-IsErrOf ran Storage (reads.failed moved); bytes = reads.bytes; device = reads.device }
+fine-ReadsFor ran old new reads = record { failed = λ moved. fine-IsErrOf ran Storage (reads.failed moved); bytes = reads.bytes; len = reads.len; device = reads.device }
 
 -- what becomes of clusters was printed
 fine-PrintsChanges : {O : Type 0} (form : ApplyForm) (header : HeaderRecord) (done : Result ChangedClusters Fault) (ran : Result (Unit {0}) Fault) (contents : O → OutputBytes) (old new : StorageState) (a b : O)

@@ -4,7 +4,7 @@
 
 ghost use Rattle.std.specs.Prelude.{◌≡◌, IsTrue};
 
-use qcow2_base::{Fault, GuestOffset, HostCluster, ImageFiles, Storage};
+use qcow2_base::{Device, Fault, GuestOffset, HostCluster, ImageFiles, Storage};
 use qcow2_calls::NOT_MADE;
 use qcow2_metadata::{Header, L1Table, L2Mapping, L2Table, RefBlock, Table};
 use qcow2_session::{
@@ -66,7 +66,7 @@ pub fn plan_edits<S: Storage>(
 }
 
 /// `qcow2_session::apply_edits`.
-pub fn apply_edits<S: Storage>(
+pub fn apply_edits<S: Device>(
     alloc: Global,
     image: &mut S,
     header: &mut Header,
@@ -151,7 +151,7 @@ pub fn parse_command(
 }
 
 /// `qcow2_session::run`.
-pub fn run<S: Storage, O: Write>(
+pub fn run<S: Device, O: Write>(
     alloc: Global,
     image: &mut S,
     command: &Command,

@@ -23,6 +23,8 @@ mod images;
 #[cfg(test)]
 mod lookups;
 #[cfg(test)]
+mod plain_storage;
+#[cfg(test)]
 mod refused_calls;
 #[cfg(test)]
 mod sample_image;

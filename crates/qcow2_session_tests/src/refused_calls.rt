@@ -9,7 +9,7 @@ use crate::failing_output::{FailingOutput, Failure};
 use crate::sample_image::{COPIED, Numbers, counted, sample_image};
 use crate::tables::map;
 use Call::{EditImage, Line, LoadHeader, Locate, LookUp, LookUpImage, StepImage};
-use qcow2_base::{Fault, GuestOffset, HostCluster, MemStorage, Storage};
+use qcow2_base::{Device, Fault, GuestOffset, HostCluster, MemStorage, Storage};
 use qcow2_calls::{header_of, load_header, load_table};
 use qcow2_metadata::L1Table;
 use qcow2_session::commands::locate_fault;
@@ -200,7 +200,7 @@ fn make(
 }
 
 // Prints where in an image a fault is.
-fn locate<S: Storage>(
+fn locate<S: Device>(
     alloc: Global,
     image: &mut S,
     fault: u64,

@@ -1,18 +1,19 @@
 //! A storage that fails at a planned call, to show what a caller does then.
 
 ghost use Rattle.std.specs.Prelude.{◌≡◌, ◌+◌, ◌^◌, ◌%◌, ◌≤◌, [], ◌∷◌, ◌++◌, false, length, None, Some, IsTrue, IsErr};
-ghost use Rattle.qcow2_base.specs.Storage.{ReadsBytes, Syncs, WritesBytes};
+ghost use Rattle.qcow2_base.specs.Storage.{ChangesNoByte, ReadsBytes, TellsEnd, WritesBytes};
 ghost use Rattle.qcow2_testing.specs.Failing.{seen_as, plan_after, FollowsPlan};
 
-use qcow2_base::{Storage, StorageFault};
+use qcow2_base::{Device, Storage, StorageFault};
 use std::alloc::Global;
 
-/// A call of a storage: where it begins and how many bytes it asks for.
+/// A call of a device: where a read or a write begins and how many bytes it asks for.
 #[derive(Clone, Copy, Debug, PartialEq, Eq)]
 pub enum StorageCall {
     Read { offset: u64, len: usize },
     Write { offset: u64, len: usize },
     Sync,
+    Len,
 }
 
 /// A storage that passes its calls on to another and records them. Where a test plans it, one call
@@ -61,7 +62,7 @@ impl<S> FailingStorage<S> {
     }
 
     // Counts one more failed call.
-    fn fail(&mut self) -> Result<(), StorageFault>
+    fn fail<T>(&mut self) -> Result<T, StorageFault>
         ensures err { IsErr result }
         ensures counted { self.new ≡ record self.old { failures = (self.old.failures + 1) % 2 ^ 64 } }
     {
@@ -130,8 +131,18 @@ impl<S: Storage> Storage for FailingStorage<S> {
         self.fail()
     }
 
+    ghost mem_align_is_power = { λ f. S.mem_align_is_power f.inner };
+
+    ghost req_align_is_power = { λ f. S.req_align_is_power f.inner };
+
+    ghost byte_fits = { λ f offset. S.byte_fits f.inner offset };
+
+    ghost ends = { λ f. S.ends f.inner };
+}
+
+impl<S: Device> Device for FailingStorage<S> {
     fn sync(&mut self) -> Result<(), StorageFault>
-        ensures bytes { Syncs result (seen_as S.state self.old) (seen_as S.state self.new) }
+        ensures bytes { ChangesNoByte result (seen_as S.state self.old) (seen_as S.state self.new) }
         ensures plan { FollowsPlan result StorageCall.Sync self.old self.new }
     {
         if self.admits(StorageCall::Sync)
@@ -142,11 +153,15 @@ impl<S: Storage> Storage for FailingStorage<S> {
         self.fail()
     }
 
-    ghost mem_align_is_power = { λ f. S.mem_align_is_power f.inner };
-
-    ghost req_align_is_power = { λ f. S.req_align_is_power f.inner };
-
-    ghost byte_fits = { λ f offset. S.byte_fits f.inner offset };
-
-    ghost ends = { λ f. S.ends f.inner };
+    fn len(&mut self) -> Result<Option<u64>, StorageFault>
+        ensures end { TellsEnd result (seen_as S.state self.old) (seen_as S.state self.new) }
+        ensures plan { FollowsPlan result StorageCall.Len self.old self.new }
+    {
+        if self.admits(StorageCall::Len)
+            && let Ok(len) = self.inner.len()
+        {
+            return Ok(len);
+        }
+        self.fail()
+    }
 }

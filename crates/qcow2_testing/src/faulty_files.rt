@@ -5,7 +5,7 @@ ghost use Rattle.qcow2_base.specs.Storage.ImageFile.{unknown_content};
 ghost use Rattle.qcow2_base.specs.Storage.ImageFiles.{ClosesImage, unknown_file};
 
 use crate::failing::take_turn;
-use qcow2_base::{Fault, FileStorage, ImageFiles, file_len};
+use qcow2_base::{Fault, FileStorage, ImageFiles};
 use std::alloc::{Alloc, Allocator};
 use std::cell::Cell;
 use std::fs::{Metadata, OpenFile, OpenOptions};
@@ -246,9 +246,5 @@ impl<R: Files> ImageFiles for FaultyFiles<'_, R> {
     {
         let _ = path;
         drop(image);
-    }
-
-    fn image_len(&mut self, path: &str) -> Result<Option<u64>, Fault> {
-        file_len(self, path)
     }
 }

@@ -90,8 +90,8 @@ impl ImageFile for KnownFile {
         }
     }
 
-    fn file_len(&mut self) -> io::Result<u64> {
-        Ok(self.image.bytes().len() as u64)
+    fn file_len(&mut self) -> io::Result<Option<u64>> {
+        Ok(Some(self.image.bytes().len() as u64))
     }
 
     fn sync_bytes(&mut self) -> io::Result<()> {
@@ -160,10 +160,5 @@ impl ImageFiles for KnownFiles {
         let _ = path;
         self.failures = image.failures();
         self.image = image.into_file().image;
-    }
-
-    fn image_len(&mut self, path: &str) -> Result<Option<u64>, Fault> {
-        let _ = path;
-        Ok(Some(self.image.bytes().len() as u64))
     }
 }

@@ -17,6 +17,7 @@ abbrev pub state_over : FileContent → ℕ → StorageState
 state_over content failures = record {
   tells = content.tells;
   byte_at = content.byte_at;
+  len = content.len;
   failures = failures;
   mem_align = 1;
   req_align = 1;

@@ -1,5 +1,5 @@
 -- What is known of a file that an image lies in, and what do reads and writes of it change?
-use Rattle.std.specs.Prelude.{◌≡◌, ℕ, zero, ◌+◌, ◌<◌, ◌≤◌, Bool, false, IsTrue, List, length, max, take, Result, Ok, Err, IfOk}
+use Rattle.std.specs.Prelude.{◌≡◌, ℕ, zero, ◌+◌, ◌<◌, ◌≤◌, Bool, false, IsTrue, List, length, max, take, Option, Some, Result, Ok, Err, IfOk}
 use Rattle.qcow2_base.specs.Storage.{Holds, Image, SameOutside}
 
 -- what is known of a file: whether its bytes are known, these bytes, 0 past its end, and how many there are
@@ -43,7 +43,7 @@ pub record WritesSome {E : Type 0} (answer : Result ℕ E) (offset : ℕ) (bytes
   pub len : IfOk answer (λ count. OnFile old (new.len ≡ end_after old.len offset count))
   pub tells : new.tells ≡ old.tells
 
--- a question for the file's length that ended in this answer
-pub record TellsLength {E : Type 0} (answer : Result ℕ E) (old new : FileContent) : Type 0 where
-  pub len : IfOk answer (λ len. OnFile old (len ≡ old.len))
+-- a question for the file's length that ended in this answer: none where it has no end that is known
+pub record TellsLength {E : Type 0} (answer : Result (Option ℕ) E) (old new : FileContent) : Type 0 where
+  pub len : IfOk answer (λ found. OnFile old (found ≡ Some old.len))
   pub unchanged : new ≡ old

@@ -1,12 +1,12 @@
 -- What is known of the files of paths, and what changes where one is opened or closed?
-use Rattle.std.specs.Prelude.{◌≡◌, ◌<◌, ◌⊎◌, ℕ, List, Option, Some, Result, IfOk, OnErr}
+use Rattle.std.specs.Prelude.{◌≡◌, ◌<◌, ◌⊎◌, ℕ, List, Result, IfOk, OnErr}
 use Rattle.qcow2_base.specs.Storage.File.{failures_of, file_of}
 use Rattle.qcow2_base.specs.Storage.ImageFile.{FileContent, OnFile, unknown_content}
 use Rattle.qcow2_base.specs.declared.fault.Fault.{Fault}
 use Rattle.qcow2_base.specs.declared.storage.file.FileStorage.{FileStorage}
 
 -- what is known of the file of a path: its content, and how many calls had failed when it was last closed, or could not be
--- opened or measured
+-- opened
 pub record PathFile : Type 0 where
   pub content : FileContent
   pub failures : ℕ
@@ -35,8 +35,3 @@ pub record ClosesImage {F : Type 0} (known : F → FileContent) (image : FileSto
   pub content : (new path).content ≡ known (file_of image)
   pub failures : OnFile (known (file_of image)) ((new path).failures ≡ failures_of image)
   pub others : ChangesOne path old new
-
--- a question for the length of the file of a path ended in this answer
-pub record MeasuresImage (answer : Result (Option ℕ) Fault) (path : List ℕ) (old new : List ℕ → PathFile) : Type 0 where
-  pub len : IfOk answer (λ found. OnFile (old path).content (found ≡ Some (old path).content.len) × (new ≡ old))
-  pub refused : OnErr answer (FailsFor path old new)

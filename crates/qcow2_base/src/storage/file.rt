@@ -1,13 +1,13 @@
 //! An image in a file.
 
-ghost use Rattle.std.specs.Prelude.{◌≡◌, ◌+◌, ◌^◌, ◌%◌, ◌<◌, ◌≤◌, ◌↔◌, true, length, take, refl, is_ok, IsOk, IsErr, IsOkUnless, IfOk, OnOk, MatchResult};
+ghost use Rattle.std.specs.Prelude.{◌≡◌, ◌+◌, ◌^◌, ◌%◌, ◌<◌, ◌≤◌, ◌↔◌, true, length, take, refl, Ok, IsOk, IsErr, IsOkUnless, IfOk, OnOk, MatchResult};
 ghost use Rattle.std.specs.Fs.{new_options, with_read, with_write, IsDir, file_type};
 ghost use Rattle.qcow2_base.specs.Format.{max_file_length};
 ghost use Rattle.qcow2_base.specs.Storage.File.{failures_of, file_of, file_state};
 ghost use Rattle.qcow2_base.specs.Storage.ImageFile.{OnFile};
-ghost use Rattle.qcow2_base.specs.Storage.{Holds, ReadsBytes, SameOutside, WritesBytes};
+ghost use Rattle.qcow2_base.specs.Storage.{ChangesNoByte, Holds, ReadsBytes, SameOutside, TellsEnd, WritesBytes};
 
-use super::{ImageFile, Storage, StorageFault};
+use super::{Device, ImageFile, Storage, StorageFault};
 use crate::Fault;
 use std::fs::{File, Metadata, OpenFile, OpenOptions};
 use std::io;
@@ -117,28 +117,39 @@ impl<F: ImageFile> Storage for FileStorage<F> {
         count(write_all(&mut self.file, buf, offset), &mut self.failures)
     }
 
-    /// Asks the file for it.
-    fn sync(&mut self) -> Result<(), StorageFault> {
-        count(self.file.sync_bytes(), &mut self.failures)
-    }
-
     ghost mem_align_is_power = { λ _. (0, refl) };
 
     ghost req_align_is_power = { λ _. (0, refl) };
 
     ghost byte_fits = { λ s offset. F.byte_fits s.file offset };
 
-    ghost ends = { λ s. ((F.content s.file).len, λ offset past. F.ends s.file offset past) };
+    ghost ends = { λ s offset past. F.ends s.file offset past };
 }
 
-fn count(outcome: io::Result<()>, failures: &mut u64) -> Result<(), StorageFault>
+impl<F: ImageFile> Device for FileStorage<F> {
+    /// Asks the file for it.
+    fn sync(&mut self) -> Result<(), StorageFault>
+        ensures { ChangesNoByte result (file_state F.content self.old) (file_state F.content self.new) }
+    {
+        count(self.file.sync_bytes(), &mut self.failures)
+    }
+
+    fn len(&mut self) -> Result<Option<u64>, StorageFault>
+        ensures { TellsEnd result (file_state F.content self.old) (file_state F.content self.new) }
+    {
+        count(self.file.file_len(), &mut self.failures)
+    }
+}
+
+// What a call of a file comes to, whose failure is counted.
+fn count<T>(outcome: io::Result<T>, failures: &mut u64) -> Result<T, StorageFault>
     ensures failures { MatchResult result
         (λ _. failures.new ≡ failures.old)
         (λ _. failures.new ≡ (failures.old + 1) % 2 ^ 64) }
-    ensures same { is_ok result ≡ is_ok outcome }
+    ensures same { MatchResult result (λ value. outcome ≡ Ok value) (λ _. IsErr outcome) }
 {
     match outcome {
-        Ok(()) => Ok(()),
+        Ok(value) => Ok(value),
         Err(_) => {
             *failures = failures.wrapping_add(1);
             Err(StorageFault)
@@ -167,10 +178,10 @@ fn read_all<F: ImageFile>(file: &mut F, buf: &mut [u8], offset: u64) -> io::Resu
 fn refuse_longer<F: ImageFile>(file: &mut F, len: u64) -> io::Result<()>
     ensures { F.content file.new ≡ F.content file.old }
 {
-    if file.file_len()? > len {
-        return Err(ErrorKind::UnexpectedEof.into());
+    match file.file_len()? {
+        Some(end) if end > len => Err(ErrorKind::UnexpectedEof.into()),
+        _ => Ok(()),
     }
-    Ok(())
 }
 
 // Reads until the buffer is full or the file gives no more, and returns how many bytes it gave.

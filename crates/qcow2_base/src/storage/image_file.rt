@@ -6,7 +6,7 @@ ghost use Rattle.qcow2_base.specs.Storage.ImageFile.{FileContent, ReadsSome, Tel
 
 use std::fs::OpenFile;
 use std::io;
-use std::io::{Read, Seek, SeekFrom, Write};
+use std::io::{ErrorKind, Read, Seek, SeekFrom, Write};
 
 /// A file that an image lies in, by calls that say where they read and write.
 ///
@@ -30,8 +30,9 @@ pub trait ImageFile {
     fn write_at(&mut self, buf: &[u8], offset: u64) -> io::Result<usize>
         ensures { WritesSome result offset buf.now (content self.old) (content self.new) };
 
-    /// How long the file is, in bytes. Changes no byte, also where it fails.
-    fn file_len(&mut self) -> io::Result<u64>
+    /// How long the file is, in bytes, or `None` where it has no end that is known, as a pipe. Changes no
+    /// byte, also where it fails.
+    fn file_len(&mut self) -> io::Result<Option<u64>>
         ensures { TellsLength result (content self.old) (content self.new) };
 
     /// Waits until all that was written before is on the device. Changes no byte, also where it fails.
@@ -53,7 +54,7 @@ impl<F: Read + Write + Seek + OpenFile> ImageFile for F {
         match self.seek(SeekFrom::Start(offset)) {
             Ok(_) => self.read(buf),
             Err(error) => {
-                if self.file_len()? > offset {
+                if self.seek(SeekFrom::End(0))? > offset {
                     return Err(error);
                 }
                 Ok(0)
@@ -68,9 +69,14 @@ impl<F: Read + Write + Seek + OpenFile> ImageFile for F {
         Ok(count)
     }
 
-    /// The length is sought for, so that a block device has one too.
-    fn file_len(&mut self) -> io::Result<u64> {
-        self.seek(SeekFrom::End(0))
+    /// The length is sought for, so that a block device has one too. What can't be sought, as a pipe, has
+    /// none.
+    fn file_len(&mut self) -> io::Result<Option<u64>> {
+        match self.seek(SeekFrom::End(0)) {
+            Ok(len) => Ok(Some(len)),
+            Err(error) if error.kind() == ErrorKind::NotSeekable => Ok(None),
+            Err(error) => Err(error),
+        }
     }
 
     /// Asks the file for it. A file system may hold back what a file says of itself, such as its times.

@@ -1,13 +1,13 @@
 //! An image in memory.
 
-ghost use Rattle.std.specs.Prelude.{◌≡◌, ℕ, ◌+◌, ◌^◌, ◌<◌, ◌≤◌, max, length, slice_index, IsOk, OnOk, OnErr};
+ghost use Rattle.std.specs.Prelude.{◌≡◌, ℕ, ◌+◌, ◌^◌, ◌<◌, ◌≤◌, max, length, slice_index, Ok, Some, IsOk, OnOk, OnErr};
 ghost use Rattle.qcow2_base.specs.Format.{max_file_length};
 ghost use Rattle.qcow2_base.specs.Storage.Growth.{GrowsToFit};
 ghost use Rattle.qcow2_base.specs.Storage.{IsPowerOfTwo, Holds, SameOutside, WritesBytes, image_of};
 ghost use Rattle.qcow2_base.specs.Storage.Alignment.{power_of_two_once};
 ghost use Rattle.std.proofs.lemmas.List.{get_or_past};
 
-use super::{Storage, StorageFault};
+use super::{Device, Storage, StorageFault};
 use std::alloc::AllocError;
 
 /// An image in memory. Its bytes are known, and it fails only where it can't grow.
@@ -98,18 +98,32 @@ impl Storage for MemStorage {
         }
     }
 
-    /// There is no device.
-    fn sync(&mut self) -> Result<(), StorageFault> {
-        Ok(())
-    }
-
     ghost mem_align_is_power = { λ m. m.aligned };
 
     ghost req_align_is_power = { λ m. m.aligned };
 
     ghost byte_fits = { λ m offset. m.bytes_fit offset };
 
-    ghost ends = { λ m. (length m.bytes.items, λ o past. get_or_past m.bytes.items o 0 past) };
+    ghost ends = { λ m o past. get_or_past m.bytes.items o 0 past };
+}
+
+/// There is no device below. Never fails.
+impl Device for MemStorage {
+    ghost use Rattle.qcow2_base.specs.Storage.Memory.{memory_bytes};
+
+    fn sync(&mut self) -> Result<(), StorageFault>
+        ensures ok { IsOk result }
+        ensures same { self.new ≡ self.old }
+    {
+        Ok(())
+    }
+
+    fn len(&mut self) -> Result<Option<u64>, StorageFault>
+        ensures end { result ≡ Ok (Some (length (memory_bytes self.old))) }
+        ensures same { self.new ≡ self.old }
+    {
+        Ok(Some(self.bytes.len() as u64))
+    }
 }
 
 /// Fills the buffer with the bytes from `offset` on, and with zeros past the last one.

@@ -72,11 +72,6 @@ impl<'a> Storage for SliceStorage<'a> {
         Err(StorageFault)
     }
 
-    /// Nothing is ever written.
-    fn sync(&mut self) -> Result<(), StorageFault> {
-        Ok(())
-    }
-
     ghost mem_align_is_power = { λ _. (0, refl) };
 
     ghost req_align_is_power = { λ _. (0, refl) };
@@ -84,12 +79,9 @@ impl<'a> Storage for SliceStorage<'a> {
     ghost byte_fits = { λ s offset.
         let fits = s.bytes_fit (offset - s.start) in Prim.grind (arith, nat_tests, fits) };
 
-    ghost ends = { λ s. (
-      s.start + length s.bytes.now,
-      λ o past.
-          let none = get_or_past s.bytes.now (o - s.start) 0 (Prim.omega (arith, past)) in
-          Prim.grind (arith, nat_tests, past, none),
-    ) };
+    ghost ends = { λ s o past.
+        let none = get_or_past s.bytes.now (o - s.start) 0 (Prim.omega (arith, past)) in
+        Prim.grind (arith, nat_tests, past, none) };
 }
 
 // Fills the buffer with the bytes from `offset` on of an image that has these from `start` on, and with zeros

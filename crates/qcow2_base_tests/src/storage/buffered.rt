@@ -1,7 +1,7 @@
 //! Storages that are read in pages: which calls reach the storage below.
 
 use super::{LIMIT, READS as SMALL_READS, check_bytes, memory, read, write};
-use qcow2_base::{MemStorage, Storage, StorageFault};
+use qcow2_base::{Device, MemStorage, Storage, StorageFault};
 use qcow2_buffered::BufferedStorage;
 use qcow2_testing::{FailingStorage, StorageCall, each, filled_image, rows, same};
 use std::alloc::{AllocError, Global};
@@ -112,4 +112,12 @@ fn a_sync_through_pages_is_passed_on(rt: HostRuntime) -> Result<(), Fail> {
     let mut storage = buffered(rt.alloc(), 512, Some(1))?;
     let answers = (storage.sync(), storage.sync(), storage.sync());
     same(answers, (Ok(()), Err(StorageFault), Ok(())), "three calls")
+}
+
+#[test]
+fn a_length_is_asked_of_the_storage_below_the_pages(rt: HostRuntime) -> Result<(), Fail> {
+    let mut storage = buffered(rt.alloc(), 512, Some(1))?;
+    let len = storage.inner().inner.bytes().len() as u64;
+    let answers = (storage.len(), storage.len(), storage.len());
+    same(answers, (Ok(Some(len)), Err(StorageFault), Ok(Some(len))), "three calls")
 }

@@ -4,7 +4,7 @@ use super::{
     LIMIT, WRITES, Written, check_bytes, check_failed_read, check_failed_write, check_failures,
     check_read, read, write,
 };
-use qcow2_base::{Fault, FileStorage, Storage, StorageFault};
+use qcow2_base::{Device, Fault, FileStorage, Storage, StorageFault};
 use qcow2_testing::{
     FaultyFile, FaultyFiles, file_holds, holds, rows, same, temporary_file, temporary_path,
 };
@@ -217,4 +217,13 @@ fn a_sync_fails_where_that_of_the_file_does(rt: HostRuntime) -> Result<(), Fail>
     same(storage.sync(), Ok(()), "again")?;
     check_failures(rt.alloc(), &storage, 1)?;
     file_holds(&rt, file.path.as_str(), &[1, 2, 3], "after both")
+}// A file that is opened is asked for its metadata, and then, for its length, to seek its end.
+#[test]
+fn a_length_fails_where_a_seek_of_the_file_does(rt: HostRuntime) -> Result<(), Fail> {
+    let file = temporary_file(&rt, "length", &[1, 2, 3])?;
+    let mut storage = faulty(&rt, file.path.as_str(), (Some(1), 2, u64::MAX))?;
+    same(storage.len(), Err(StorageFault), "planned to fail")?;
+    check_failures(rt.alloc(), &storage, 1)?;
+    same(storage.len(), Ok(Some(3)), "again")?;
+    check_failures(rt.alloc(), &storage, 1)
 }

@@ -3,7 +3,7 @@
 use super::{
     LIMIT, MIB, WRITES, Written, check_bytes, check_failed_write, check_failures, check_read, write,
 };
-use qcow2_base::{FileStorage, ImageFiles, Storage};
+use qcow2_base::{Device, FileStorage, ImageFiles, Storage};
 use qcow2_testing::{KnownFile, KnownFiles, same};
 use std::alloc::Global;
 use std::test::Fail;
@@ -66,6 +66,7 @@ fn a_write_that_a_file_has_no_room_for_is_counted(rt: HostRuntime) -> Result<(),
     check_failed_write(rt.alloc(), &mut storage, &[9; 2], LIMIT - 2, 1)?;
     check_bytes(rt.alloc(), &mut storage, 0, &[1, 2, 3, 0])?;
     same(storage.sync(), Ok(()), "a sync")?;
+    same(storage.len(), Ok(Some(3)), "its length")?;
     same(storage.failures(), 1, "failed calls")
 }
 
@@ -73,16 +74,12 @@ fn a_write_that_a_file_has_no_room_for_is_counted(rt: HostRuntime) -> Result<(),
 fn files_that_are_known_are_opened_by_path(rt: HostRuntime) -> Result<(), Fail> {
     let bytes = Vec::from_slice(rt.alloc(), &[1, 2, 3, 4, 5])?;
     let mut files = KnownFiles::new(rt.alloc(), bytes, 2);
-    same(files.image_len("any"), Ok(Some(5)), "length")?;
     let mut image = files.open_image("any", false)?;
     check_read(rt.alloc(), &mut image)?;
+    same(image.len(), Ok(Some(5)), "length")?;
     write(&mut image, &[7, 8], 4)?;
+    same(image.len(), Ok(Some(6)), "length after a write")?;
     same(files.bytes(), &[1, 2, 3, 4, 5], "while the file is open")?;
     files.close_image("any", image);
-    same(files.bytes(), &[1, 2, 3, 4, 7, 8], "once it is closed")?;
-    same(
-        files.image_len("any"),
-        Ok(Some(6)),
-        "length once it is closed",
-    )
+    same(files.bytes(), &[1, 2, 3, 4, 7, 8], "once it is closed")
 }

@@ -2,7 +2,7 @@
 
 use super::files::open;
 use super::{check_bytes, check_failed_read, check_failed_write, check_failures, write};
-use qcow2_base::{FileStorage, Storage};
+use qcow2_base::{Device, FileStorage};
 use qcow2_testing::{file_holds, holds, same, temporary_file};
 use std::fs;
 use std::fs::OpenOptions;
@@ -88,6 +88,7 @@ fn a_file_whose_folder_entry_goes_stays_until_it_is_closed(rt: HostRuntime) -> R
     fs::remove_file(&rt, file.path.as_str())?;
     same(write(&mut storage, &[9], 1), Ok(()), "a write")?;
     same(storage.sync(), Ok(()), "a sync")?;
+    same(storage.len(), Ok(Some(3)), "its length")?;
     check_bytes(rt.alloc(), &mut storage, 0, &[1, 9, 3, 0])?;
     holds(fs::metadata(&rt, file.path.as_str()).is_err(), "its name")
 }

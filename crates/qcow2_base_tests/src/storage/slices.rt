@@ -51,7 +51,6 @@ fn each_write_to_a_slice_fails_and_changes_nothing(rt: HostRuntime) -> Result<()
     check_failed_write(alloc, &mut storage, &[7, 8], 0, 1)?;
     check_failed_write(alloc, &mut storage, &[], 1, 2)?;
     check_failed_write(alloc, &mut storage, &[7], LIMIT - 1, 3)?;
-    storage.sync()?;
     check_bytes(alloc, &mut storage, 0, &[1, 2, 3, 0])?;
     check_failures(alloc, &storage, 3)
 }

@@ -1,7 +1,7 @@
 //! Commands over the disk.
 
 use crate::held::Held;
-use qcow2_base::{Fault, Storage};
+use qcow2_base::{Device, Fault};
 use qcow2_session::Command;
 use qcow2_session_calls::{parse_command, run};
 use std::alloc::{AllocError, Global};
@@ -26,12 +26,12 @@ fn command_of(alloc: Global, line: &str) -> Result<Command, Fault> {
 }
 
 /// Runs the command of these words, which name no image.
-pub(super) fn make<S: Storage>(line: &str, held: &mut Held, image: &mut S) -> Result<(), Fault> {
+pub(super) fn make<S: Device>(line: &str, held: &mut Held, image: &mut S) -> Result<(), Fault> {
     let command = command_of(held.alloc, line)?;
     run_command(&command, held, image)
 }
 
-fn run_command<S: Storage>(command: &Command, held: &mut Held, image: &mut S) -> Result<(), Fault> {
+fn run_command<S: Device>(command: &Command, held: &mut Held, image: &mut S) -> Result<(), Fault> {
     run(held.alloc, image, command, &mut held.out)?;
     Ok(())
 }

@@ -2,7 +2,7 @@
 
 use super::tell;
 use crate::held::{BLOCK, Held, TABLES};
-use qcow2_base::{Fault, GuestOffset, HostCluster, Storage};
+use qcow2_base::{Device, Fault, GuestOffset, HostCluster, Storage};
 use qcow2_session::{Edit, GuestEdit, Step};
 use qcow2_session_calls::{
     apply_edits, edit_image, edit_settled, edit_table, lookup, lookup_image, plan_edits,
@@ -77,7 +77,7 @@ pub(super) fn plan<S: Storage>(held: &mut Held, image: &mut S) -> Result<(), Fau
     tell(&mut held.out, &plan.clusters)
 }
 
-pub(super) fn apply<S: Storage>(held: &mut Held, image: &mut S) -> Result<(), Fault> {
+pub(super) fn apply<S: Device>(held: &mut Held, image: &mut S) -> Result<(), Fault> {
     let clusters = apply_edits(held.alloc, image, &mut held.header, DISK_EDITS)?;
     tell(&mut held.out, &clusters)
 }

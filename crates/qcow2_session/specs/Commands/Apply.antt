@@ -96,20 +96,20 @@ guest_edit cluster_size (DiscardCluster offset) = Discard offset cluster_size
 abbrev pub guest_edits : HeaderRecord → List DiskEdit → List GuestEdit
 guest_edits header edits = map (guest_edit (2 ^ header.v2.cluster_bits)) edits
 
--- whether the cluster that an edit maps, if it does, is one of those of a file of this length, whose last may be cut
+-- whether the cluster that an edit maps, if it does, is one of those of an image of this length, whose last may be cut
 abbrev pub maps_within : ℕ → ℕ → GuestEdit → Bool
-maps_within file_length cb (Map offset host_cluster) = nat_lt host_cluster.0 (div_ceil file_length (2 ^ cb))
-maps_within file_length cb (Zero offset length keep_allocation) = true
-maps_within file_length cb (Discard offset length) = true
+maps_within len cb (Map offset host_cluster) = nat_lt host_cluster.0 (div_ceil len (2 ^ cb))
+maps_within len cb (Zero offset length keep_allocation) = true
+maps_within len cb (Discard offset length) = true
 
--- whether an edit fits the disk of this header, and its file of this length
-abbrev pub fits_file : ℕ → HeaderRecord → DiskEdit → Bool
-fits_file file_length header edit = let of_disk = guest_edit (2 ^ header.v2.cluster_bits) edit in
-    guest_edit_fits header of_disk && maps_within file_length header.v2.cluster_bits of_disk
+-- whether an edit fits the disk of this header, and its image of this length
+abbrev pub fits_within : ℕ → HeaderRecord → DiskEdit → Bool
+fits_within len header edit = let of_disk = guest_edit (2 ^ header.v2.cluster_bits) edit in
+    guest_edit_fits header of_disk && maps_within len header.v2.cluster_bits of_disk
 
 -- the position of the first edit that doesn't
-abbrev pub first_unfit_in_file : ℕ → HeaderRecord → List DiskEdit → Option ℕ
-first_unfit_in_file file_length header edits = position (λ edit. not (fits_file file_length header edit)) edits
+abbrev pub first_unfit_within : ℕ → HeaderRecord → List DiskEdit → Option ℕ
+first_unfit_within len header edits = position (λ edit. not (fits_within len header edit)) edits
 
 -- the line of a cluster that lost a reference and has others: with its counter
 abbrev pub kept_line : KeptCluster → List ℕ

@@ -14,7 +14,7 @@ use Rattle.qcow2_metadata.specs.Results.{IsFromOutside, unless_refused}
 use Rattle.qcow2_repair.specs.FileEnd.{tables_in_file}
 use Rattle.qcow2_repair.specs.Refusals.{header_refusal}
 use Rattle.qcow2_session.specs.Commands.{facts_of}
-use Rattle.qcow2_session.specs.Commands.Apply.{first_unfit_in_file}
+use Rattle.qcow2_session.specs.Commands.Apply.{first_unfit_within}
 use Rattle.qcow2_session.specs.Commands.Printing.{OutputBytes, Run}
 use Rattle.qcow2_session.specs.Commands.Report.{ReportsFault}
 use Rattle.qcow2_session.specs.Commands.Running.{AfterHeader, EndsAndFlushes}
@@ -26,91 +26,82 @@ use Rattle.qcow2_session.specs.declared.commands.apply.DiskEdit.{DiskEdit}
 use Rattle.qcow2_session.specs.declared.commands.check.CheckForm.TheVariants.{Repair}
 use Rattle.qcow2_check.specs.declared.verdict.Verdict.{Verdict}
 
--- why edits can't be made of the disk of an image with this header, in a file of this length, if they can't: the L1 table is too
--- short, the first edit that doesn't fit the disk or maps a cluster past the file's end, or a table that the file doesn't have.
--- With an external data file clusters lie elsewhere, and the edits are refused for that
-abbrev pub edits_in_file : List DiskEdit → HeaderRecord → ℕ → Image → Result (Unit {0}) Fault
-edits_in_file edits header len image = unless_refused (short_l1_refusal header) (if uses_external_data header then Ok tt
-    else unless_refused (option_map BadEdit (first_unfit_in_file len header edits)) (tables_in_file len header image))
+-- why edits can't be made of the disk of an image with this header and of this length, if they can't: the L1 table is too
+-- short, the first edit that doesn't fit the disk or maps a cluster past the end, or a table past the end. With an external
+-- data file clusters lie elsewhere, and the edits are refused for that
+abbrev pub edits_within : List DiskEdit → HeaderRecord → ℕ → Image → Result (Unit {0}) Fault
+edits_within edits header len image = unless_refused (short_l1_refusal header) (if uses_external_data header then Ok tt
+    else unless_refused (option_map BadEdit (first_unfit_within len header edits)) (tables_in_file len header image))
 
--- why an image with this header can't be repaired in a file of this length, if it can't: by the header alone, or by a table
--- that the file doesn't have
-abbrev pub repair_in_file : HeaderRecord → ℕ → Image → Result (Unit {0}) Fault
-repair_in_file header len image = unless_refused (header_refusal header) (tables_in_file len header image)
+-- why an image with this header and of this length can't be repaired, if it can't: by the header alone, or by a table past the
+-- end
+abbrev pub repair_within : HeaderRecord → ℕ → Image → Result (Unit {0}) Fault
+repair_within header len image = unless_refused (header_refusal header) (tables_in_file len header image)
 
--- why a command doesn't go with an image with this header in a file of this length, if it doesn't
-abbrev pub command_in_file : Command → HeaderRecord → ℕ → Image → Result (Unit {0}) Fault
-command_in_file (Apply form edits) header len image = edits_in_file edits header len image
-command_in_file (Check Repair) header len image = repair_in_file header len image
-command_in_file _ header len image = Ok tt
+-- why a command doesn't go with an image with this header and of this length, if it doesn't
+abbrev pub command_within : Command → HeaderRecord → ℕ → Image → Result (Unit {0}) Fault
+command_within (Apply form edits) header len image = edits_within edits header len image
+command_within (Check Repair) header len image = repair_within header len image
+command_within _ header len image = Ok tt
 
--- where the file is known, a command goes with an image in it
-abbrev pub FitsFile : FileContent → Command → HeaderRecord → StorageState → Type 0
-FitsFile file command header state = OnFile file (OnImage state (λ image.
-    command_in_file command header file.len image ≡ Ok tt))
+-- a command goes with an image's end, where that is known
+abbrev pub FitsEnd : Command → HeaderRecord → StorageState → Type 0
+FitsEnd command header state = OnImage state (λ image. command_within command header state.len image ≡ Ok tt)
 
--- those of edits: by the L1 table's length, by an edit that doesn't go with a file of some length that holds the clusters
--- itself, or by tables
-abbrev pub IsEditsFileFault : List DiskEdit → HeaderRecord → Fault → Type 0
-IsEditsFileFault edits header fault = (short_l1_refusal header ≡ Some fault)
-    ⊎ ((len : ℕ) × (option_map BadEdit (first_unfit_in_file len header edits) ≡ Some fault) × (uses_external_data header ≡ false))
+-- the refusals of edits so: by the L1 table's length, by an edit that doesn't go with some end, where the image holds the
+-- clusters itself, or by tables
+abbrev pub IsEditsEndFault : List DiskEdit → HeaderRecord → Fault → Type 0
+IsEditsEndFault edits header fault = (short_l1_refusal header ≡ Some fault)
+    ⊎ ((len : ℕ) × (option_map BadEdit (first_unfit_within len header edits) ≡ Some fault) × (uses_external_data header ≡ false))
     ⊎ IsTablesFault header fault
 
 -- those of a repair: by its header, or by tables
-abbrev pub IsRepairFileFault : HeaderRecord → Fault → Type 0
-IsRepairFileFault header fault = (header_refusal header ≡ Some fault) ⊎ IsTablesFault header fault
+abbrev pub IsRepairEndFault : HeaderRecord → Fault → Type 0
+IsRepairEndFault header fault = (header_refusal header ≡ Some fault) ⊎ IsTablesFault header fault
 
--- the faults by which a command is refused so, whatever the file: these, or one from outside
-abbrev pub IsFileRefusal : Command → HeaderRecord → Fault → Type 0
-IsFileRefusal (Apply form edits) header fault = IsEditsFileFault edits header fault ⊎ IsFromOutside fault
-IsFileRefusal (Check Repair) header fault = IsRepairFileFault header fault ⊎ IsFromOutside fault
-IsFileRefusal _ header fault = ⊥
+-- the faults by which a command is refused so, whatever the end: these, or one from outside
+abbrev pub IsEndRefusal : Command → HeaderRecord → Fault → Type 0
+IsEndRefusal (Apply form edits) header fault = IsEditsEndFault edits header fault ⊎ IsFromOutside fault
+IsEndRefusal (Check Repair) header fault = IsRepairEndFault header fault ⊎ IsFromOutside fault
+IsEndRefusal _ header fault = ⊥
 
--- a command was refused by the length of its image's file: where that is known, because it doesn't go with it, or the fault
--- came from outside
-pub record IsRefusedInFile (file : FileContent) (command : Command) (header : HeaderRecord) (state : StorageState) (fault : Fault) : Type 0 where
-  pub refusal : IsFileRefusal command header fault
-  pub known : OnFile file (OnImage state (λ image.
-      IsFromOutside fault ⊎ (command_in_file command header file.len image ≡ Err fault)))
+-- a command was refused by the image's end: where that is known, because it doesn't go with it, or the fault came from outside
+pub record IsRefusedByEnd (command : Command) (header : HeaderRecord) (state : StorageState) (fault : Fault) : Type 0 where
+  pub refusal : IsEndRefusal command header fault
+  pub known : OnImage state (λ image. IsFromOutside fault ⊎ (command_within command header state.len image ≡ Err fault))
 
--- how long the file of a command's image is, if it has an end, as far as the command asks
-abbrev pub IsLengthFor : FileContent → Command → Option ℕ → Type 0
-IsLengthFor file (Apply form edits) found = OnFile file (found ≡ Some file.len)
-IsLengthFor file (Check Repair) found = OnFile file (found ≡ Some file.len)
-IsLengthFor file _ found = found ≡ None
-
--- a comparison of a command with the length of the image's file ended in this answer
-abbrev pub ComparesWithFile : {T : Type 0} → FileContent → Command → HeaderRecord → StorageState → Result T Fault → Type 0
-ComparesWithFile file command header state answer = MatchResult answer
-    (λ _. FitsFile file command header state)
-    (λ fault. IsRefusedInFile file command header state fault)
+-- a comparison of a command with the image's end ended in this answer
+abbrev pub ComparesWithEnd : {T : Type 0} → Command → HeaderRecord → StorageState → Result T Fault → Type 0
+ComparesWithEnd command header state answer = MatchResult answer
+    (λ _. FitsEnd command header state)
+    (λ fault. IsRefusedByEnd command header state fault)
 
 -- with its header a run stopped before its command: since memory ran out for pages, or by the fault of that comparison. From
 -- there on it printed nothing, and only read
-pub record StopsBefore {O : Type 0} (file : FileContent) (command : Command) (header : HeaderRecord) (run : Run Verdict O) : Type 0 where
+pub record StopsBefore {O : Type 0} (command : Command) (header : HeaderRecord) (run : Run Verdict O) : Type 0 where
   pub fault : IsErrAnd run.answer (λ fault. ((fault ≡ NoMemory) × IsTrue (facts_of command).reads_all_tables)
-      ⊎ IsRefusedInFile file command header run.old fault)
+      ⊎ IsRefusedByEnd command header run.old fault)
   pub reads : OnlyReads run.answer run.old run.new
   pub output : run.after ≡ run.before
 
--- with its header a command stopped before it ran, or it goes with the file and ran
-abbrev pub StopsOrEnds : {O : Type 0} → FileContent → Command → HeaderRecord → Run Verdict O → Type 0
-StopsOrEnds file command header run = StopsBefore file command header run
-    ⊎ (FitsFile file command header run.old × EndsAndFlushes (facts_of command) header run)
+-- with its header a command stopped before it ran, or it goes with the image's end and ran
+abbrev pub StopsOrEnds : {O : Type 0} → Command → HeaderRecord → Run Verdict O → Type 0
+StopsOrEnds command header run = StopsBefore command header run
+    ⊎ (FitsEnd command header run.old × EndsAndFlushes (facts_of command) header run)
 
 -- what is told of what a run came to: where another program came to the image, a call failed for that
 abbrev pub told_beside : Bool → Result Verdict Fault → Result Verdict Fault
 told_beside true (Err Storage) = Err InUse
 told_beside in_use ran = ran
 
--- a run of a command over a file that was `old`, which is `new` now: the file could not be measured or opened, or its header
--- was looked for, and what the run left of the image is in the file. Nobody else comes to a file that is known
+-- a run of a command over a file that was `old`, which is `new` now: the file could not be opened, or its header was looked
+-- for, and what the run left of the image is in the file. Nobody else comes to a file that is known
 abbrev pub RunsOnFile : {O : Type 0} → Command → PathFile → PathFile → Result Verdict Fault → (O → OutputBytes) → O → O → Type 0
 RunsOnFile command old new answer contents before after =
     ((answer ≡ Err Storage) × (new.content ≡ old.content) × OnFile old.content (0 < new.failures) × (after ≡ before))
     ⊎ ((ran : Result Verdict Fault) × (in_use : Bool) × OnFile old.content (in_use ≡ false) × (answer ≡ told_beside in_use ran)
     × (failures : ℕ) × OnFile new.content (failures ≡ new.failures)
-    × AfterHeader (facts_of command) (StopsOrEnds old.content command) (record {
+    × AfterHeader (facts_of command) (StopsOrEnds command) (record {
       answer = ran;
       old = state_over old.content 0;
       new = state_over new.content failures;

@@ -14,7 +14,7 @@ use super::Command;
 use super::words::{Arguments, FromWord, number, parts};
 use crate::lines::{LineBuffer, ToLine, print, print_lines};
 use qcow2_apply::{ChangedClusters, GuestEdit, KeptCluster, Plan, apply_edits};
-use qcow2_base::{Fault, GuestOffset, HostCluster, Storage};
+use qcow2_base::{Device, Fault, GuestOffset, HostCluster, Storage};
 use qcow2_metadata::Header;
 use std::alloc::{AllocError, Global};
 use std::io::Write;
@@ -51,10 +51,10 @@ impl DiskEdit {
         }
     }
 
-    // Whether it fits the disk of an image with this header, and a cluster that it maps is in the image's
-    // file of this length.
-    fn fits_file(&self, header: &Header, file_length: u64) -> bool
-        ensures { result ≡ spec.fits_file file_length header.now self.now }
+    // Whether it fits the disk of an image with this header and this length in bytes, and a cluster that it
+    // maps begins before the image's end.
+    fn fits_within(&self, header: &Header, len: u64) -> bool
+        ensures { result ≡ spec.fits_within len header.now self.now }
     {
         let edit = self.guest_edit(header.cluster_size());
         if !edit.fits(header) {
@@ -62,7 +62,7 @@ impl DiskEdit {
         }
         match edit {
             GuestEdit::Map { host_cluster, .. } => {
-                host_cluster.0 < file_length.div_ceil(1 << header.cluster_bits())
+                host_cluster.0 < len.div_ceil(1 << header.cluster_bits())
             }
             GuestEdit::Zero { .. } | GuestEdit::Discard { .. } => true,
         }
@@ -77,7 +77,7 @@ impl DiskEdit {
 /// Returns the faults of `apply_edits`, before any line. 35 comes before a byte changes, and so do all but 34
 /// where no cluster is that of two tables or blocks, or the header's. A failed write to `out` is the storage
 /// fault: the edits are made by then.
-pub fn edit_disk<S: Storage, O: Write>(
+pub fn edit_disk<S: Device, O: Write>(
     alloc: Global,
     image: &mut S,
     header: Header,
@@ -107,7 +107,7 @@ fn stale_bitmaps(form: ApplyForm, header: &Header) -> Option<u32>
 }
 
 // What becomes of clusters by edits of a disk, which are made or planned.
-fn changed_clusters<S: Storage>(
+fn changed_clusters<S: Device>(
     alloc: Global,
     image: &mut S,
     header: Header,
@@ -126,7 +126,7 @@ fn changed_clusters<S: Storage>(
 }
 
 // The same where they are made.
-fn made_clusters<S: Storage>(
+fn made_clusters<S: Device>(
     alloc: Global,
     image: &mut S,
     header: Header,
@@ -154,19 +154,19 @@ fn planned_clusters<S: Storage>(
     Ok(plan.clusters)
 }
 
-/// The position of the first edit that doesn't fit the disk of an image with this header, or maps a cluster
-/// that the image's file of this length doesn't have, if there is one.
-pub(super) fn first_unfit_in_file(
+/// The position of the first edit that doesn't fit the disk of an image with this header and this length in
+/// bytes, or maps a cluster past the image's end, if there is one.
+pub(super) fn first_unfit_within(
     header: &Header,
     edits: &[DiskEdit],
-    file_length: u64,
+    len: u64,
 ) -> Option<usize>
-    ensures { result ≡ spec.first_unfit_in_file file_length header.now edits.now }
+    ensures { result ≡ spec.first_unfit_within len header.now edits.now }
 {
     edits.iter().position(
         |edit: &DiskEdit| -> bool
-            ensures { result ≡ not (spec.fits_file file_length header.entry.now edit.now) }
-        { !edit.fits_file(header, file_length) },
+            ensures { result ≡ not (spec.fits_within len header.entry.now edit.now) }
+        { !edit.fits_within(header, len) },
     )
 }
 

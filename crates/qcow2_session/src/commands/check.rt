@@ -20,7 +20,7 @@ use crate::lines::{Output, ToLine, print};
 use account::take_account;
 use json::print_object;
 use lines::end_lines;
-use qcow2_base::{Fault, Storage};
+use qcow2_base::{Device, Fault, Storage};
 use qcow2_check::{Findings, Flags, Totals};
 use qcow2_metadata::Header;
 use qcow2_metadata::laws::every_header_is_valid;
@@ -97,7 +97,7 @@ pub fn check_image_in_json<S: Storage, O: Write>(
 ///
 /// Returns the fault of `repair_image` before any line; what that leaves is said there. A repaired image can
 /// be checked, so a fault after that is 34 or 35, and leaves the image repaired.
-pub fn repair_and_check_image<S: Storage, O: Write>(
+pub fn repair_and_check_image<S: Device, O: Write>(
     alloc: Global,
     image: &mut S,
     header: Header,
@@ -113,7 +113,7 @@ pub fn repair_and_check_image<S: Storage, O: Write>(
 }
 
 /// Checks an image with this header, in a form, and returns what is to be thought of it.
-pub(super) fn check_in_form<S: Storage, O: Write>(
+pub(super) fn check_in_form<S: Device, O: Write>(
     alloc: Global,
     image: &mut S,
     header: Header,

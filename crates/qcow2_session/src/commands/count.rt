@@ -11,19 +11,38 @@ use super::Command;
 use super::words::{Arguments, FromWord, number, parts};
 use crate::lines::{LineBuffer, ToLine, print_lines};
 use crate::{Step, StepReply, step_image};
-use qcow2_base::{Fault, HostCluster, Storage};
+use qcow2_base::{Device, Fault, HostCluster, Storage};
 use qcow2_metadata::Header;
 use qcow2_metadata::laws::every_header_is_valid;
 use std::alloc::{AllocError, Global};
 use std::io::Write;
 
 /// Makes steps of the counters of the refcount block that begins with a cluster of an image with this header.
-/// Waits until they are on the device, and then prints for each `ok` and the number before it, or `refused`.
+/// Then prints for each `ok` and the number before it, or `refused`.
 ///
 /// Returns the fault of the block's place or of the first step whose index is past the block's end before any
 /// line, and has changed no byte then. A failed write to `out` is the storage fault: the block is written by
 /// then. After a storage fault of the image some pieces of the block may be written, or all.
 pub fn count_references<S: Storage, O: Write>(
+    alloc: Global,
+    image: &mut S,
+    header: &Header,
+    cluster: HostCluster,
+    steps: &[Step],
+    out: &mut O,
+) -> Result<(), Fault>
+    ensures counts { PrintsChange (run_over S.state O.contents result image.old image.new out.old out.new)
+        (block_layout (block_geometry_of header.now)) (end_of_steps cluster steps.now header.now) }
+    ensures last { PrintsLast (run_over S.state O.contents result image.old image.new out.old out.new) }
+{
+    // Which bytes counters have is known of valid headers.
+    every_header_is_valid(header);
+    let replies = step_image(alloc, image, header, cluster, steps)?;
+    print_lines(replies.as_slice(), out)
+}
+
+// The same, but that it waits until the steps are on the device before it prints.
+pub(super) fn count_and_wait<S: Device, O: Write>(
     alloc: Global,
     image: &mut S,
     header: &Header,

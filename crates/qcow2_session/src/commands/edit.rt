@@ -15,19 +15,37 @@ use super::Command;
 use super::words::{Arguments, FromWord, number, parts};
 use crate::lines::{LineBuffer, ToLine, print_lines};
 use crate::{Edit, Outcome, edit_image, load_l1_table, named_cluster};
-use qcow2_base::{Fault, HostCluster, Storage};
+use qcow2_base::{Device, Fault, HostCluster, Storage};
 use qcow2_metadata::{ClustersToFreeEntry, Header};
 use std::alloc::{AllocError, Global};
 use std::io::Write;
 
-/// Makes edits of the L2 table that an L1 entry names, in an image with this header. Waits until they are on
-/// the device, and then prints the clusters that lost a reference, and those that gained one.
+/// Makes edits of the L2 table that an L1 entry names, in an image with this header. Then prints the clusters
+/// that lost a reference, and those that gained one.
 ///
 /// Returns the fault of the L1 table, 23 where the L1 entry names no table, the fault of the L2 table or of
 /// the first edit that doesn't fit before any line, and has changed no byte then. A failed write to `out` is
 /// the storage fault: the table is written by then. After a storage fault of the image some pieces of the
 /// table may be written, or all.
 pub fn edit_entries<S: Storage, O: Write>(
+    alloc: Global,
+    image: &mut S,
+    header: &Header,
+    l1_index: usize,
+    edits: &[Edit],
+    out: &mut O,
+) -> Result<(), Fault>
+    ensures edits { PrintsChange (run_over S.state O.contents result image.old image.new out.old out.new)
+        (l2_layout (geometry_of header.now)) (end_of_edits l1_index edits.now header.now) }
+    ensures last { PrintsLast (run_over S.state O.contents result image.old image.new out.old out.new) }
+{
+    let cluster = table_of_entry(alloc, image, header, l1_index)?;
+    let outcome = edit_image(alloc, image, header, cluster, edits)?;
+    print_outcome(&outcome, out)
+}
+
+// The same, but that it waits until the edits are on the device before it prints.
+pub(super) fn edit_and_wait<S: Device, O: Write>(
     alloc: Global,
     image: &mut S,
     header: &Header,

@@ -4,8 +4,7 @@ ghost use Rattle.std.specs.Prelude.{◌≡◌, ◌≤◌, ◌↔◌, None, Ok, E
 ghost use Rattle.std.specs.Io.KnownBytes.{Keeps};
 ghost use Rattle.qcow2_base.specs.Storage.{OnlyReads};
 ghost use Rattle.qcow2_base.specs.Storage.File.{file_state};
-ghost use Rattle.qcow2_base.specs.Storage.ImageFile.{FileContent};
-ghost use Rattle.qcow2_base.specs.Storage.ImageFiles.{ChangesOne, FailsFor};
+ghost use Rattle.qcow2_base.specs.Storage.ImageFiles.{ChangesOne};
 ghost use Rattle.qcow2_base.specs.declared.fault.Fault.TheVariants.{Storage as StorageFailed};
 ghost use Rattle.qcow2_check.specs.Verdict.{status_of_verdict};
 ghost use Rattle.qcow2_check.specs.declared.verdict.Verdict.TheVariants.{Fine};
@@ -15,15 +14,15 @@ ghost use Rattle.qcow2_session.specs.Commands.Explain.{PrintsExplained, explaine
 ghost use Rattle.qcow2_session.specs.Commands.Help.{PrintsAsked, asked_text, text_of};
 ghost use Rattle.qcow2_session.specs.Commands.Printing.{AppendsPart, PrintsLast, run_over};
 ghost use Rattle.qcow2_session.specs.Commands.Report.{Reports, fault_line};
-ghost use Rattle.qcow2_session.specs.Commands.RunningOnFiles.{ComparesWithFile, IsEditsFileFault, IsLengthFor, IsRepairFileFault, RunsOnFile, RunsWords, StopsOrEnds, edits_in_file, repair_in_file, told_beside};
+ghost use Rattle.qcow2_session.specs.Commands.RunningOnFiles.{ComparesWithEnd, IsEditsEndFault, IsRepairEndFault, RunsOnFile, RunsWords, StopsOrEnds, edits_within, repair_within, told_beside};
 ghost use Rattle.qcow2_session.specs.Commands.Running.{AfterHeader, EndsAndFlushes, FindsHeader, IsHeaderFor, Runs, fine_unless_failed};
 
 use super::Command;
-use super::apply::{DiskEdit, edit_disk, first_unfit_in_file};
+use super::apply::{DiskEdit, edit_disk, first_unfit_within};
 use super::at::print_mapping_at;
 use super::check::{CheckForm, check_in_form};
-use super::count::count_references;
-use super::edit::edit_entries;
+use super::count::count_and_wait;
+use super::edit::edit_and_wait;
 use super::explain::Question;
 use super::help::HelpText;
 use super::info::print_info;
@@ -35,7 +34,7 @@ use super::refcount::print_counters;
 use super::report::{refuse_words, report_fault};
 use super::tables::print_tables;
 use crate::lines::print;
-use qcow2_base::{Fault, FileStorage, ImageFile, ImageFiles, Storage};
+use qcow2_base::{Device, Fault, FileStorage, ImageFile, ImageFiles, Storage};
 use qcow2_buffered::BufferedStorage;
 use qcow2_check::{Verdict, refuse_short_l1};
 use qcow2_metadata::Header;
@@ -205,12 +204,11 @@ fn status_of<E: Write>(ran: Result<Verdict, Fault>, err: &mut E) -> u8
 /// Opens the image of a path, for writing where the command may change it, runs the command over it, and
 /// closes it. What it prints is flushed, also before a fault. One that reads all tables reads them in pages.
 ///
-/// Returns 34 where the file can't be opened, or for `apply` and a repair its length can't be had; 35
-/// where memory runs out for the pages. Where the image's file has an end, as a regular file or a block
-/// device, a repair returns what `refuse_unrepairable` and `refuse_tables_past_end` do. `apply` returns 41
-/// there where the L1 table is too short, and if the file has the data 32 and the position of the first
-/// edit that doesn't fit the disk or maps a cluster past the file's end, and then what
-/// `refuse_tables_past_end` does. After these nothing is printed, and the file is as it was, but for what
+/// Returns 34 where the file can't be opened; 35 where memory runs out for the pages. A repair returns what
+/// `refuse_unrepairable` and `refuse_tables_past_end` do. `apply` returns 41 where the L1 table is too short,
+/// and if the image has the data 32 and the position of the first edit that doesn't fit the disk or maps a
+/// cluster past the image's end, and then what `refuse_tables_past_end` does. A regular file and a block
+/// device have an end. After these nothing is printed, and the file is as it was, but for what
 /// the load of the header wrote. Else it returns what `run` does, and 34 where the flush fails. No other
 /// file changes, unless it is the same one. Where `files` say that another program came to the image, 39
 /// comes in place of 34: a part of what was asked may be done then.
@@ -228,9 +226,8 @@ pub fn run_on_file<R: ImageFiles, O: Write>(
         IsErr result × Keeps (O.contents out.old) (O.contents out.new)) }
     ensures verdict { (facts_of command.now).has_verdict ≡ false → IfOk result (λ verdict. verdict ≡ Fine) }
 {
-    let len = length_for(files, path, command)?;
     let image = files.open_image(path, command.changes_image())?;
-    let (image, ran) = run_in_file(alloc, image, len, command, out);
+    let (image, ran) = run_in_file(alloc, image, command, out);
     let told = unless_in_use(ran, files.is_in_use(path));
     files.close_image(path, image);
     told
@@ -247,37 +244,14 @@ fn unless_in_use(ran: Result<Verdict, Fault>, is_in_use: bool) -> Result<Verdict
     }
 }
 
-// How long the file of a path is, if it has an end and the command is compared with that.
-fn length_for<R: ImageFiles>(
-    files: &mut R,
-    path: &str,
-    command: &Command,
-) -> Result<Option<u64>, Fault>
-    ensures fault { IsOkUnless result Fault.Storage }
-    ensures len { IfOk result (λ len. IsLengthFor (R.file_at files.old path.now).content command.now len
-        × (R.file_at files.new ≡ R.file_at files.old)) }
-    ensures refused { OnErr result (FailsFor path.now (R.file_at files.old) (R.file_at files.new)) }
-{
-    match command {
-        Command::Apply { .. }
-        | Command::Check {
-            form: CheckForm::Repair,
-        } => files.image_len(path),
-        _ => Ok(None),
-    }
-}
-
-// Runs a command over an image in an open file, of this length if it is known, and returns that file, to be
-// closed.
+// Runs a command over an image in an open file, and returns that file, to be closed.
 fn run_in_file<F: ImageFile, O: Write>(
     alloc: Global,
     mut image: FileStorage<F>,
-    len: Option<u64>,
     command: &Command,
     out: &mut O,
 ) -> (FileStorage<F>, Result<Verdict, Fault>)
-    ensures runs { (file : FileContent) → IsLengthFor file command.now len →
-        AfterHeader (facts_of command.now) (StopsOrEnds file command.now)
+    ensures runs { AfterHeader (facts_of command.now) (StopsOrEnds command.now)
         (run_over (file_state F.content) O.contents result.1 image result.0 out.old out.new) }
     ensures place { IfSome (facts_of command.now).place_fault (λ fault.
         IsErr result.1 × Keeps (O.contents out.old) (O.contents out.new)) }
@@ -288,7 +262,7 @@ fn run_in_file<F: ImageFile, O: Write>(
         Ok(header) => header,
         Err(fault) => return (image, Err(fault)),
     };
-    if let Err(fault) = compare_with_file(alloc, &mut image, len, &header, command) {
+    if let Err(fault) = compare_with_end(alloc, &mut image, &header, command) {
         return (image, Err(fault));
     }
     if !command.reads_all_tables() {
@@ -304,72 +278,67 @@ fn run_in_file<F: ImageFile, O: Write>(
     }
 }
 
-// Refuses a command that doesn't go with the length of the image's file, if that has an end.
-fn compare_with_file<S: Storage>(
+// Refuses a command that doesn't go with where the image ends, if that is known.
+fn compare_with_end<S: Device>(
     alloc: Global,
     image: &mut S,
-    len: Option<u64>,
     header: &Header,
     command: &Command,
 ) -> Result<(), Fault>
-    ensures compares { (file : FileContent) → IsLengthFor file command.now len →
-        ComparesWithFile file command.now header.now (S.state image.old) result }
+    ensures compares { ComparesWithEnd command.now header.now (S.state image.old) result }
     ensures reads { OnlyReads result (S.state image.old) (S.state image.new) }
 {
-    let Some(len) = len else {
-        return Ok(());
-    };
     match command {
         Command::Apply { edits, .. } => {
-            refuse_edits_in_file(alloc, image, len, header, edits.as_slice())
+            refuse_edits_past_end(alloc, image, header, edits.as_slice())
         }
         Command::Check {
             form: CheckForm::Repair,
-        } => refuse_repair_in_file(alloc, image, len, header),
+        } => refuse_repair_past_end(alloc, image, header),
         _ => Ok(()),
     }
 }
 
-// Refuses edits of a disk in an image's file of this length: by 41 where the L1 table is too short, by 32 and
-// the position of the first edit that doesn't fit the disk or maps a cluster past the file's end, or by the
-// faults of tables that the file doesn't have. With an external data file the edits are refused later.
-fn refuse_edits_in_file<S: Storage>(
+// Refuses edits of a disk: by 41 where the L1 table is too short, by 32 and the position of the first edit
+// that doesn't fit the disk or maps a cluster past the image's end, or by the faults of tables past the end.
+// With an external data file the edits are refused later.
+fn refuse_edits_past_end<S: Device>(
     alloc: Global,
     image: &mut S,
-    len: u64,
     header: &Header,
     edits: &[DiskEdit],
 ) -> Result<(), Fault>
-    ensures reads { Reads (λ done. done) result (edits_in_file edits.now header.now len)
-        (IsEditsFileFault edits.now header.now) (S.state image.old) (S.state image.new) }
+    ensures reads { Reads (λ done. done) result (edits_within edits.now header.now (S.state image.old).len)
+        (IsEditsEndFault edits.now header.now) (S.state image.old) (S.state image.new) }
 {
     refuse_short_l1(header)?;
     if header.external_data_file() {
         return Ok(());
     }
-    if let Some(position) = first_unfit_in_file(header, edits, len) {
+    let Some(len) = image.len()? else {
+        return Ok(());
+    };
+    if let Some(position) = first_unfit_within(header, edits, len) {
         return Err(Fault::BadEdit(position));
     }
-    refuse_tables_past_end(alloc, image, header, len)
+    refuse_tables_past_end(alloc, image, header)
 }
 
-// Refuses a repair in an image's file of this length: by 37 or 41 for what the header says, or by the
-// faults of tables that the file doesn't have.
-fn refuse_repair_in_file<S: Storage>(
+// Refuses a repair: by 37 or 41 for what the header says, or by the faults of tables past the image's end.
+fn refuse_repair_past_end<S: Device>(
     alloc: Global,
     image: &mut S,
-    len: u64,
     header: &Header,
 ) -> Result<(), Fault>
-    ensures reads { Reads (λ done. done) result (repair_in_file header.now len)
-        (IsRepairFileFault header.now) (S.state image.old) (S.state image.new) }
+    ensures reads { Reads (λ done. done) result (repair_within header.now (S.state image.old).len)
+        (IsRepairEndFault header.now) (S.state image.old) (S.state image.new) }
 {
     refuse_unrepairable(header)?;
-    refuse_tables_past_end(alloc, image, header, len)
+    refuse_tables_past_end(alloc, image, header)
 }
 
 // Runs a command over an image with its header, and flushes what it printed, also before a fault.
-fn run_and_flush<S: Storage, O: Write>(
+fn run_and_flush<S: Device, O: Write>(
     alloc: Global,
     image: &mut S,
     header: Header,
@@ -406,7 +375,7 @@ fn after_flush(ran: Result<Verdict, Fault>, flushed: io::Result<()>) -> Result<V
 /// Returns the fault of the header, or what the command's own function returns: `Fine` where that returns no
 /// verdict.
 #[tactic(auto, using(crate::proofs::RunningLemmas::runs))]
-pub fn run<S: Storage, O: Write>(
+pub fn run<S: Device, O: Write>(
     alloc: Global,
     image: &mut S,
     command: &Command,
@@ -427,7 +396,7 @@ pub fn run<S: Storage, O: Write>(
 }
 
 // Runs a command over an image with its header.
-fn run_with<S: Storage, O: Write>(
+fn run_with<S: Device, O: Write>(
     alloc: Global,
     image: &mut S,
     header: Header,
@@ -462,10 +431,10 @@ fn run_with<S: Storage, O: Write>(
             fine(edit_disk(alloc, image, header, *form, edits.as_slice(), out))
         }
         Command::Edit { l1_index, edits } => {
-            fine(edit_entries(alloc, image, &header, *l1_index, edits.as_slice(), out))
+            fine(edit_and_wait(alloc, image, &header, *l1_index, edits.as_slice(), out))
         }
         Command::Count { cluster, steps } => {
-            fine(count_references(alloc, image, &header, *cluster, steps.as_slice(), out))
+            fine(count_and_wait(alloc, image, &header, *cluster, steps.as_slice(), out))
         }
         Command::L2 { cluster, .. } => {
             fine(print_l2_table(alloc, image, &header, *cluster, out))

@@ -5,7 +5,7 @@ use super::run::words_of;
 use super::whole_images::INFO;
 use crate::failing_output::{FailingOutput, Failure};
 use crate::sample_image::{COPIED, Numbers, check_sample, counted, sample_image};
-use qcow2_base::{Fault, FileStorage, Storage};
+use qcow2_base::{Device, Fault, FileStorage, Storage};
 use qcow2_session::{Command, Verdict, run_words};
 use qcow2_session_calls::{parse_command, run, run_on_file};
 use qcow2_testing::{KnownFile, KnownFiles, each, picture, rows, same};
@@ -264,7 +264,7 @@ fn command_of(alloc: Global, line: &str) -> Result<Option<Result<Command, Fault>
 }
 
 /// What the command of a line returns.
-pub(crate) fn run_command<S: Storage>(
+pub(crate) fn run_command<S: Device>(
     alloc: Global,
     image: &mut S,
     line: &str,

@@ -51,10 +51,6 @@ impl ImageFiles for KnownHost {
     {
         self.images.close_image(path, image)
     }
-
-    fn image_len(&mut self, path: &str) -> Result<Option<u64>, Fault> {
-        self.images.image_len(path)
-    }
 }
 
 // What an operation fails with that needs another file.

@@ -273,16 +273,13 @@ pub(crate) fn sample_file<'a>(
     temporary_file(rt, name, image.bytes())
 }
 
-// How a run that ends so opens its image. A line that is no command opens none, and `apply` and a repair none
-// that isn't there, since they ask for the length first.
+// How a run that ends so opens its image. A line that is no command opens none.
 fn opens_of(line: &str, ended: Ended<'_>) -> Opens {
     let changes = line.starts_with("edit ")
         || line.starts_with("count ")
         || line.ends_with(" repair")
         || line.starts_with("apply ") && !line.contains(" plan ");
-    let asks_length = line.starts_with("apply ") || line.ends_with(" repair");
-    let is_missing = line.contains(" no-such-folder/");
-    let is_opened = !matches!(ended, NoCommand(_)) && !(asks_length && is_missing);
+    let is_opened = !matches!(ended, NoCommand(_));
     Opens {
         reading: u64::from(is_opened && !changes),
         other: u64::from(is_opened && changes),

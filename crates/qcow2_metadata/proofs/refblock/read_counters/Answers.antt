@@ -66,6 +66,7 @@ loop-piece-preserved g c =
           rw (next, more, c.unpack.ensures.numbers) (take-with_numbers_from list done read (done + m) (ap (λ n. done + n) (sym count)) within
           ∙ counters-more order done first image offset (take done list) buffer orders eights held whole (so_far told));
       bytes = search rules;
+      end = search rules;
       failures = search rules;
       device = search rules;
     }

@@ -17,6 +17,7 @@ invariant-loop-piece g l =
       small : AreCounters l.order counters;
       told : IsTrue old.tells → take done counters ≡ counters_at l.order old.byte_at l.offset.0 done;
       bytes : new.byte_at ≡ old.byte_at;
+      end : new.len ≡ old.len;
       failures : new.failures ≡ old.failures;
       device : SameDevice old new;
     }

@@ -11,6 +11,7 @@ returns-clause-read g c =
     record {
       read = λ told. part_of_page size old c.fill.new.self c.args.start c.args.first c.copy_to.new.buffer starts c.fill.ensures.page room c.copy_to.ensures.bytes told;
       unchanged = c.in_ok-fill.ensures.storage.unchanged;
+      len = c.in_ok-fill.ensures.storage.len;
       failures = c.in_ok-fill.ensures.storage.failures;
       device = c.in_ok-fill.ensures.storage.device;
     }

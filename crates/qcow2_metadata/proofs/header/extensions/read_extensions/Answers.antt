@@ -50,6 +50,7 @@ loop-extensions-preserved g c =
           let more = rw before.bytes at (extensions_at-more image len place (first, c.in-Some.next) known exact) in
           before.told told ∙ rw list more;
       bytes = search rules;
+      end = search rules;
       failures = search rules;
       device = search rules;
       same = search rules;

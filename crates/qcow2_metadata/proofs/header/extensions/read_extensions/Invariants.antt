@@ -16,6 +16,7 @@ invariant-loop-extensions g l =
           ≡ result_map (λ others. map extension_of l.extensions.items ++ others) (extensions_at old.byte_at l.len l.place);
       storable : All IsStorable (map extension_of l.extensions.items);
       bytes : new.byte_at ≡ old.byte_at;
+      end : new.len ≡ old.len;
       failures : new.failures ≡ old.failures;
       device : SameDevice old new;
       same : l.image.image.ghost_name ≡ l.initial.image.image.ghost_name;

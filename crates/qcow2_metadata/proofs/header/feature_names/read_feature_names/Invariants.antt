@@ -14,6 +14,7 @@ invariant-loop-index g l =
       told : IsTrue old.tells → names_of_chunks (bytes_at old.byte_at l.place l.len) l.index ≡ Ok (names_of l.names);
       ordered : IsOrdered key_cmp l.names;
       bytes : new.byte_at ≡ old.byte_at;
+      end : new.len ≡ old.len;
       failures : new.failures ≡ old.failures;
       device : SameDevice old new;
       same : l.image.image.ghost_name ≡ l.initial.image.image.ghost_name;

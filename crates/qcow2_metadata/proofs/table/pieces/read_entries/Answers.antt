@@ -53,6 +53,7 @@ loop-piece-preserved g c =
       len = omega (arith, before.len);
       valid = rw numbers (first_fault-append _ (map plain old) (table_numbers (image_of bytes) 0 m) before.valid ∙ c.in_ok-decode.ensures.valid);
       bytes = search rules;
+      end = search rules;
       failures = search rules;
       device = search rules;
     }

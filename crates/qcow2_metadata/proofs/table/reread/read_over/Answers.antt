@@ -51,6 +51,7 @@ loop-piece-preserved g c =
       count = search rules;
       valid = c.decode_over.ensures.valid before.valid;
       bytes = search rules;
+      end = search rules;
       failures = search rules;
       device = search rules;
     }

@@ -15,6 +15,7 @@ invariant-loop-piece g l =
       count : length l.entries ≡ length l.initial.entries;
       valid : first_fault (g.E.TableEntry.fault_of l.header.v2.cluster_bits) numbers ≡ None;
       bytes : new.byte_at ≡ old.byte_at;
+      end : new.len ≡ old.len;
       failures : new.failures ≡ old.failures;
       device : SameDevice old new;
     }

@@ -1,25 +1,20 @@
-use Rattle.std.proofs.Common.{◌∙◌, refl}
+use Rattle.std.proofs.Common.{refl}
 use Rattle.std.proofs.lemmas.Result.{err_from_is_err_and}
 use Rattle.qcow2_session.proofs.RunningOnFilesLemmas.{changed-since, closed-file, not-opened, placed-beside}
 use Rattle.qcow2_session.specs.Commands.{facts_of}
 use Rattle.qcow2_session.proofs.commands.running.run_on_file.Goals as goal
 
-pub returns-in_err-len-clause-runs : goal.returns-in_err-len-clause-runs
-returns-in_err-len-clause-runs g c =
-    let exit = err_from_is_err_and c.from_residual.result c.from_residual.ensures.1 in
-    not-opened c.args.command.now c.args.path.now _ _ _ _ g.O.Write.contents _ (rw (exit.1, exit.2, c.in_err-len.ensures.fault) refl) refl c.in_err-len.ensures.refused
-
 pub returns-in_err-image-clause-runs : goal.returns-in_err-image-clause-runs
 returns-in_err-image-clause-runs g c =
-    let exit = err_from_is_err_and c.from_residual-in_err-image.result c.from_residual-in_err-image.ensures.1 in
-    not-opened c.args.command.now c.args.path.now _ _ _ _ g.O.Write.contents _ (rw (exit.1, exit.2, c.in_err-image.ensures.fault) refl)
-    c.in_ok-len.ensures.len.1 c.in_err-image.ensures.opens.refused
+    let exit = err_from_is_err_and c.from_residual.result c.from_residual.ensures.1 in
+    not-opened c.args.command.now c.args.path.now _ _ _ g.O.Write.contents _ (rw (exit.1, exit.2, c.in_err-image.ensures.fault) refl)
+    c.in_err-image.ensures.opens.refused
 
 pub returns-clause-runs : goal.returns-clause-runs
 returns-clause-runs g c =
     let opened = c.in_ok-image.ensures.opens.opened in
-    closed-file g.R.Image.ImageFile.content c.args.command.now c.args.path.now _ _ _ _ _ _ _ _ _ _ g.O.Write.contents _ _
-    c.in_ok-len.ensures.len.0 c.in_ok-len.ensures.len.1 opened.0 opened.1 c.run_in_file-image.ensures.runs
+    closed-file g.R.Image.ImageFile.content c.args.command.now c.args.path.now _ _ _ _ _ _ _ _ g.O.Write.contents _ _
+    opened.0 opened.1 c.run_in_file-image.ensures.runs
     opened.2 c.is_in_use.ensures c.unless_in_use-told.ensures.told c.close_image.ensures
 
 pub returns-clause-place : goal.returns-clause-place
@@ -29,4 +24,4 @@ returns-clause-place g c =
 
 pub returns-clause-others : goal.returns-clause-others
 returns-clause-others g c =
-    changed-since c.args.path.now _ _ _ (c.in_ok-image.ensures.opens.opened.2 ∙ c.in_ok-len.ensures.len.1) c.close_image.ensures.others
+    changed-since c.args.path.now _ _ _ c.in_ok-image.ensures.opens.opened.2 c.close_image.ensures.others

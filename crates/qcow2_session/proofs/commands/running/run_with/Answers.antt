@@ -77,20 +77,20 @@ returns-in-Apply-clause-at_once g c = λ silent.
 pub returns-in-Edit-clause-ends : goal.returns-in-Edit-clause-ends
 returns-in-Edit-clause-ends g c =
     rw (c.in-Edit.is, c.fine-in-Edit.ensures.answer)
-    (fine-PrintsChange c.edit_entries.result _ _ _ _ _ _ _ (rw c.as_slice-in-Edit.ensures at c.edit_entries.ensures.edits))
+    (fine-PrintsChange c.edit_and_wait.result _ _ _ _ _ _ _ (rw c.as_slice-in-Edit.ensures at c.edit_and_wait.ensures.edits))
 
 pub returns-in-Edit-clause-at_once : goal.returns-in-Edit-clause-at_once
 returns-in-Edit-clause-at_once g c = λ silent.
-    rw c.fine-in-Edit.ensures.answer (fine-PrintsLast c.edit_entries.result _ _ _ _ _ c.edit_entries.ensures.last)
+    rw c.fine-in-Edit.ensures.answer (fine-PrintsLast c.edit_and_wait.result _ _ _ _ _ c.edit_and_wait.ensures.last)
 
 pub returns-in-Count-clause-ends : goal.returns-in-Count-clause-ends
 returns-in-Count-clause-ends g c =
     rw (c.in-Count.is, c.fine-in-Count.ensures.answer)
-    (fine-PrintsChange c.count_references.result _ _ _ _ _ _ _ (rw c.as_slice-in-Count.ensures at c.count_references.ensures.counts))
+    (fine-PrintsChange c.count_and_wait.result _ _ _ _ _ _ _ (rw c.as_slice-in-Count.ensures at c.count_and_wait.ensures.counts))
 
 pub returns-in-Count-clause-at_once : goal.returns-in-Count-clause-at_once
 returns-in-Count-clause-at_once g c = λ silent.
-    rw c.fine-in-Count.ensures.answer (fine-PrintsLast c.count_references.result _ _ _ _ _ c.count_references.ensures.last)
+    rw c.fine-in-Count.ensures.answer (fine-PrintsLast c.count_and_wait.result _ _ _ _ _ c.count_and_wait.ensures.last)
 
 pub returns-in-L2-clause-ends : goal.returns-in-L2-clause-ends
 returns-in-L2-clause-ends g c =
