@@ -13,7 +13,7 @@ use Rattle.qcow2_check.specs.Findings.{AreRight, is_shared, uses_of_kind}
 use Rattle.qcow2_check.specs.NamedTables.{named_block}
 use Rattle.qcow2_check.specs.Tally.{used_clusters}
 use Rattle.qcow2_check.specs.Uses.{ImageTables, block_uses, header_uses, image_uses, l1_entry_uses}
-use Rattle.qcow2_check.specs.declared.tally.UseKind.TheVariants.{Fixed, L2Table}
+use Rattle.qcow2_check.specs.declared.tally.TallyKind.TheVariants.{Fixed, L2Table}
 use Rattle.qcow2_changes.proofs.CounterTablesLemmas.{place-at}
 use Rattle.qcow2_apply.specs.Apply.{AreAllApart, l2_tables_of, refblocks_of}
 use Rattle.qcow2_guest_edits.specs.Passes.{ArePlacesApart}

@@ -18,7 +18,7 @@ use Rattle.qcow2_metadata.specs.declared.entries.ClustersToFreeEntry.{ClustersTo
 use Rattle.qcow2_check.specs.NamedTables.{named_cluster}
 use Rattle.qcow2_check.specs.Tally.{ClusterUse, used_clusters}
 use Rattle.qcow2_check.specs.Uses.{ImageTables, block_uses, entry_uses, header_uses, image_uses, l1_entry_uses, table_uses, uses_of}
-use Rattle.qcow2_check.specs.declared.tally.UseKind.TheVariants.{Guest, L2Table}
+use Rattle.qcow2_check.specs.declared.tally.TallyKind.TheVariants.{Guest, L2Table}
 use Rattle.qcow2_apply.proofs.PlannedTablesLemmas.{none-there, run-at}
 use Rattle.qcow2_guest_edits.proofs.TablesLemmas.{edits-made}
 use Rattle.qcow2_apply.proofs.ApplyLemmas.{counter-left, table-left}

@@ -22,8 +22,8 @@ use Rattle.qcow2_check.specs.NamedTables.{named_cluster}
 use Rattle.qcow2_check.specs.Tally.{ClusterUse, mark_of, used_clusters}
 use Rattle.qcow2_check.specs.Uses.{ImageTables, block_uses, entry_uses, header_uses, image_uses, l1_entry_uses, table_uses, uses_of}
 use Rattle.qcow2_check.specs.declared.findings.Finding.{Finding}
-use Rattle.qcow2_check.specs.declared.tally.UseKind.{UseKind}
-use Rattle.qcow2_check.specs.declared.tally.UseKind.TheVariants.{Fixed, Guest, L2Table}
+use Rattle.qcow2_check.specs.declared.tally.TallyKind.{TallyKind}
+use Rattle.qcow2_check.specs.declared.tally.TallyKind.TheVariants.{Fixed, Guest, L2Table}
 use Rattle.qcow2_apply.proofs.ApplyLemmas.{can-be-made, table-left}
 use Rattle.qcow2_apply_laws.proofs.BooksLemmas.{books, uses-balance}
 use Rattle.qcow2_apply_laws.proofs.GainsLemmas.{IsFree, gained-once, gains-free}
@@ -180,7 +180,7 @@ no-leaks header edits plan old new done none = findings-all IsNoLeak tables new 
         omega (arith, before, counter)
 
 -- L2 entries use clusters for guest data alone
-entry-kind : (kind : UseKind) (g : Geometry) (v c : ℕ) → (mark_of Guest == mark_of kind) ≡ false → uses_of_kind kind (entry_uses g v) c ≡ 0
+entry-kind : (kind : TallyKind) (g : Geometry) (v c : ℕ) → (mark_of Guest == mark_of kind) ≡ false → uses_of_kind kind (entry_uses g v) c ≡ 0
 entry-kind kind g v c other = by_parts g.external_data_file (allocation g v)
   where
     by_parts : (external : Bool) (found : Option ClustersToFreeEntry)
@@ -189,14 +189,14 @@ entry-kind kind g v c other = by_parts g.external_data_file (allocation g v)
     by_parts false None = refl
     by_parts false (Some clusters) = grind (arith, nat_tests, other, kind-cons kind (record { kind = Guest; clusters = clusters }) [] c)
 
-entries-kind : (kind : UseKind) (g : Geometry) (numbers : List ℕ) (c : ℕ) → (mark_of Guest == mark_of kind) ≡ false
+entries-kind : (kind : TallyKind) (g : Geometry) (numbers : List ℕ) (c : ℕ) → (mark_of Guest == mark_of kind) ≡ false
     → uses_of_kind kind (flat_map (entry_uses g) numbers) c ≡ 0
 entries-kind kind g [] c other = refl
 entries-kind kind g (v ∷ numbers) c other =
     omega (arith, kind-append kind (entry_uses g v) (flat_map (entry_uses g) numbers) c, entry-kind kind g v c other, entries-kind kind g numbers c other)
 
 -- so an L1 entry has the same uses of another kind, whatever its table's entries are
-l1-entry-kind : (kind : UseKind) (g : Geometry) (old new : Image) (v c : ℕ) → (mark_of Guest == mark_of kind) ≡ false
+l1-entry-kind : (kind : TallyKind) (g : Geometry) (old new : Image) (v c : ℕ) → (mark_of Guest == mark_of kind) ≡ false
     → uses_of_kind kind (l1_entry_uses g new v) c ≡ uses_of_kind kind (l1_entry_uses g old v) c
 l1-entry-kind kind g old new v c other = by_table (named_cluster g.cluster_bits v) refl
   where
@@ -213,7 +213,7 @@ l1-entry-kind kind g old new v c other = by_table (named_cluster g.cluster_bits 
     by_table None is = rw (is, l1_entry_uses) refl
     by_table (Some cluster) is = rw (is, l1_entry_uses) (in_table cluster new ∙ sym (in_table cluster old))
 
-l1-kind : (kind : UseKind) (g : Geometry) (old new : Image) (l1 : List ℕ) (c : ℕ) → (mark_of Guest == mark_of kind) ≡ false
+l1-kind : (kind : TallyKind) (g : Geometry) (old new : Image) (l1 : List ℕ) (c : ℕ) → (mark_of Guest == mark_of kind) ≡ false
     → uses_of_kind kind (flat_map (l1_entry_uses g new) l1) c ≡ uses_of_kind kind (flat_map (l1_entry_uses g old) l1) c
 l1-kind kind g old new [] c other = refl
 l1-kind kind g old new (v ∷ vs) c other = omega (
@@ -225,7 +225,7 @@ l1-kind kind g old new (v ∷ vs) c other = omega (
 )
 
 -- and so has an image
-image-kind : (kind : UseKind) (tables : ImageTables) (old new : Image) (c : ℕ) → (mark_of Guest == mark_of kind) ≡ false
+image-kind : (kind : TallyKind) (tables : ImageTables) (old new : Image) (c : ℕ) → (mark_of Guest == mark_of kind) ≡ false
     → uses_of_kind kind (image_uses tables new) c ≡ uses_of_kind kind (image_uses tables old) c
 image-kind kind tables old new c other =
     let g = geometry_of tables.header in

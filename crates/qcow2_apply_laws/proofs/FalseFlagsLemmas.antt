@@ -30,7 +30,7 @@ use Rattle.qcow2_check.specs.Tally.{ClusterUse, used_clusters}
 use Rattle.qcow2_check.specs.Uses.{ImageTables, block_uses, entry_uses, header_uses, image_uses, l1_entry_uses, table_uses, uses_of}
 use Rattle.qcow2_check.specs.declared.flags.FlagPlace.{FlagPlace}
 use Rattle.qcow2_check.specs.declared.flags.WrongFlag.{WrongFlag}
-use Rattle.qcow2_check.specs.declared.tally.UseKind.TheVariants.{L2Table}
+use Rattle.qcow2_check.specs.declared.tally.TallyKind.TheVariants.{L2Table}
 use Rattle.qcow2_apply.proofs.ApplyLemmas.{can-be-made, table-left}
 use Rattle.qcow2_apply_laws.proofs.ErrorsLemmas.{AreDone, FollowAt, findings-left, follow-at, follows-all, no-error-at}
 use Rattle.qcow2_apply_laws.proofs.GainsLemmas.{IsFree, entry_maps, maps-free, maps_in, run_maps}

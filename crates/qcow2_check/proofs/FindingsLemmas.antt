@@ -21,8 +21,8 @@ use Rattle.qcow2_check.specs.Findings.{AreRight, CountsAll, FindingsState, IsChe
 use Rattle.qcow2_check.specs.Tally.{CountsMore, IsPlain, TallyState, ClusterUse, cell_at, cell_with, is_shared_cell, mark_of, with_use}
 use Rattle.qcow2_check.specs.Uses.{ImageTables, all_load, image_uses, uses_of}
 use Rattle.qcow2_check.specs.declared.findings.Finding.{Finding}
-use Rattle.qcow2_check.specs.declared.tally.UseKind.{UseKind}
-use Rattle.qcow2_check.specs.declared.tally.UseKind.TheVariants.{Fixed, Guest, L2Table}
+use Rattle.qcow2_check.specs.declared.tally.TallyKind.{TallyKind}
+use Rattle.qcow2_check.specs.declared.tally.TallyKind.TheVariants.{Fixed, Guest, L2Table}
 
 -- a cell tells how many uses of each kind there are
 pub record Tells (cell f t g : ℕ) : Type 0 where
@@ -41,7 +41,7 @@ tells-guest : (cell f t g : ℕ) → Tells cell f t g → Tells (with_use Guest 
 tells-guest cell f t g is = grind (arith, nat_tests, is)
 
 -- uses of a cluster, with one in front of others
-pub kind-cons : (kind : UseKind) (used : ClusterUse) (uses : List ClusterUse) (c : ℕ) → uses_of_kind kind (used ∷ uses) c
+pub kind-cons : (kind : TallyKind) (used : ClusterUse) (uses : List ClusterUse) (c : ℕ) → uses_of_kind kind (used ∷ uses) c
     ≡ one_if (mark_of used.kind == mark_of kind && is_among used.clusters c) + uses_of_kind kind uses c
 kind-cons kind used uses c = sum_by-cons _ used uses
 

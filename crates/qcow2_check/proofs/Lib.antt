@@ -1,8 +1,10 @@
 pub mod CountersLemmas
+pub mod CountingLemmas
 pub mod FindingsLemmas
 pub mod FindingsListLemmas
 pub mod FlagsLemmas
 pub mod NamedTablesLemmas
+pub mod SinkLemmas
 pub mod TallyLemmas
 pub mod TotalsLemmas
 pub mod UsesLemmas

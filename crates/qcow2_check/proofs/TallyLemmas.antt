@@ -2,7 +2,7 @@ use Rattle.std.proofs.Common.{◌≡◌, ℕ, ◌+◌, ◌-◌, ◌<◌, ◌≤�
 use Rattle.std.proofs.lemmas.Bool.Decides.{nat_tests}
 use Rattle.qcow2_base.specs.declared.types.HostCluster.{HostCluster}
 use Rattle.qcow2_check.specs.Tally.{used_clusters}
-use Rattle.qcow2_check.specs.declared.tally.UseKind.{UseKind}
+use Rattle.qcow2_check.specs.declared.tally.TallyKind.{TallyKind}
 use Rattle.std.proofs.lemmas.Grind.{fold-append}
 use Rattle.qcow2_check.specs.Tally.{CountsMore, IsPlain, TallyState, ClusterUse, cell_at}
 
@@ -12,7 +12,7 @@ pub counts_then : (first second : List ClusterUse) (a b c : TallyState)
 counts_then first second a b c one other = grind (arith, one, other, fold-append)
 
 -- clusters one after another that are counted one by one
-pub counts_next : (kind : UseKind) (first : HostCluster) (count at : ℕ) (a b c : TallyState) → first.0 ≤ at
+pub counts_next : (kind : TallyKind) (first : HostCluster) (count at : ℕ) (a b c : TallyState) → first.0 ≤ at
     → count ≡ at - first.0
     → CountsMore (used_clusters kind first count ∷ []) a b → CountsMore (used_clusters kind (record { 0 = at }) 1 ∷ []) b c
     → CountsMore (used_clusters kind first (at + 1 - first.0) ∷ []) a c

@@ -1,7 +1,8 @@
-use Rattle.std.proofs.Common.{◌≡◌, ℕ, true, false, zero, suc, ◌+◌, ◌-◌, ◌*◌, ◌/◌, ◌%◌, ◌^◌, ◌<◌, ◌≤◌, List, [], ◌∷◌, ◌++◌, flat_map, take, length, get_or, slice_index, Some, None, Result, Ok, Err, OnOk, add-zero, div-add-mod', ap, refl, ◌∙◌, le_refl, arith, Bool, IsTrue, Option, IfSome}
+use Rattle.std.proofs.Common.{◌≡◌, ℕ, true, false, zero, suc, ◌+◌, ◌-◌, ◌*◌, ◌/◌, ◌%◌, ◌^◌, ◌<◌, ◌≤◌, List, [], ◌∷◌, ◌++◌, flat_map, take, length, get_or, slice_index, Some, None, Result, Ok, Err, add-zero, div-add-mod', ap, refl, ◌∙◌, le_refl, arith, Bool, IsTrue, Option, IfSome}
 use Rattle.std.proofs.lemmas.List.{append-nil}
 use Rattle.std.proofs.lemmas.Bool.Decides.{nat_tests}
-use Rattle.std.proofs.lemmas.Nat.{div-mul-add, mod-pow-add, pow-add, pow_pos}
+use Rattle.std.proofs.Math.Pow.{pow_mono}
+use Rattle.std.proofs.lemmas.Nat.{div-mul-add, mod-pow-add, mul-add-lt, pow-add, pow_pos}
 use Rattle.std.proofs.Math.Nat.{div-div-eq-div-mul, mod-eq_of_lt}
 use Rattle.qcow2_metadata.specs.Entries.{offset_field}
 use Rattle.qcow2_base.specs.Bits.{field}
@@ -12,15 +13,14 @@ use Rattle.std.specs.Prelude.{is_some}
 use native.Mathlib.Numerals.{unary_clauses}
 use Rattle.std.proofs.Math.Seq.{take-suc}
 use Rattle.std.proofs.lemmas.Grind.{flat_map-append}
-use Rattle.qcow2_base.specs.Storage.{Image, OnImage, OnlyReads, StorageState}
+use Rattle.qcow2_base.specs.Storage.{Image}
 use Rattle.qcow2_base.specs.declared.fault.Fault.{Fault}
 use Rattle.qcow2_metadata.specs.Header.{Geometry, geometry}
-use Rattle.qcow2_metadata.specs.Results.{Reads, and_then}
-use Rattle.qcow2_metadata.specs.Table.{IsEntryFault}
+use Rattle.qcow2_metadata.specs.Results.{and_then}
 use Rattle.qcow2_check.proofs.TallyLemmas.{counts_then}
 use Rattle.qcow2_check.specs.Tally.{CountsMore, TallyState, ClusterUse, used_clusters}
-use Rattle.qcow2_check.specs.Uses.{all_load, entry_uses, l1_entry_loads, l1_entry_uses}
-use Rattle.qcow2_check.specs.declared.tally.UseKind.TheVariants.{Guest}
+use Rattle.qcow2_check.specs.Uses.{all_load, entry_uses, l1_entry_loads}
+use Rattle.qcow2_check.specs.declared.tally.TallyKind.TheVariants.{Guest}
 
 -- the tables of L1 entries and of one more can be loaded just where those of both can
 pub all_load_more : (g : Geometry) (image : Image) (vs : List ℕ) (v : ℕ)
@@ -56,54 +56,6 @@ no_entry_uses g (v ∷ vs) external = grind (arith, external, no_entry_uses g vs
 -- the answer where all could be loaded
 abbrev pub loaded : Result (Unit {0}) Fault
 loaded = Ok tt
-
--- the L2 tables that the first L1 entries name are loaded and counted
-pub record AreCounted (g : Geometry) (l1 : List ℕ) (index : ℕ) (old new : StorageState) (before after : TallyState) : Type 0 where
-  pub loads : OnImage old (λ bytes. all_load g (take index l1) bytes ≡ loaded)
-  pub counted : OnImage old (λ bytes. CountsMore (flat_map (l1_entry_uses g bytes) (take index l1)) before after)
-  pub first : after.first ≡ before.first
-  pub storage : OnlyReads loaded old new
-
--- and that of the next
-pub counted_more : (g : Geometry) (l1 : List ℕ) (index : ℕ) (old mid new : StorageState) (a b c : TallyState)
-    (answer : Result (Unit {0}) Fault) → index < length l1 → answer ≡ loaded
-    → AreCounted g l1 index old mid a b
-    → Reads (λ done. done) answer (λ bytes. l1_entry_loads g bytes (slice_index l1 index)) IsEntryFault mid new
-    → OnOk answer (OnImage mid (λ bytes. CountsMore (l1_entry_uses g bytes (slice_index l1 index)) b c))
-    → OnOk answer (c.first ≡ b.first)
-    → AreCounted g l1 (index + 1) old new a c
-counted_more g l1 index old mid new a b c answer below is so_far reads more first =
-    let next : take (index + 1) l1 ≡ take index l1 ++ slice_index l1 index ∷ [] = take_more l1 index 0 below in
-    record {
-      loads = λ told.
-          let here : l1_entry_loads g old.byte_at (slice_index l1 index) ≡ loaded = grind (arith, is, so_far.storage, reads.exact, told) in
-          rw (next, all_load_more g old.byte_at (take index l1) (slice_index l1 index), so_far.loads told) here;
-      counted = λ told.
-          let here : CountsMore (l1_entry_uses g old.byte_at (slice_index l1 index)) b c = grind (arith, is, so_far.storage, more, told) in
-          rw (next, flat_map-append (l1_entry_uses g old.byte_at) (take index l1) (slice_index l1 index ∷ []))
-          (counts_then _ _ a b c (so_far.counted told) (rw append-nil here));
-      first = grind (arith, is, so_far.first, first);
-      storage = grind (arith, is, so_far.storage, reads.storage);
-    }
-
--- or where it can't be loaded, all can't
-pub refused_at : (g : Geometry) (l1 : List ℕ) (index : ℕ) (old mid new : StorageState) (a b : TallyState)
-    (answer : Result (Unit {0}) Fault) (fault : Fault) → index < length l1 → answer ≡ Err fault
-    → AreCounted g l1 index old mid a b
-    → Reads (λ done. done) answer (λ bytes. l1_entry_loads g bytes (slice_index l1 index)) IsEntryFault mid new
-    → Reads (λ done. done) answer (all_load g l1) IsEntryFault old new
-refused_at g l1 index old mid new a b answer fault below is so_far reads = record {
-  exact = λ told. grind (arith, is, so_far.storage, reads.exact, told, all_load_until g old.byte_at l1 index fault below (so_far.loads told));
-  faults = reads.faults;
-  storage = grind (arith, is, so_far.storage, reads.storage);
-}
-
--- uses that are counted before those of L2 tables
-pub counts_before : (answer : Result (Unit {0}) Fault) (state : StorageState) (first : List ClusterUse) (second : Image → List ClusterUse) (a b c : TallyState)
-    → CountsMore first a b → OnOk answer (OnImage state (λ bytes. CountsMore (second bytes) b c))
-    → OnOk answer (OnImage state (λ bytes. CountsMore (first ++ second bytes) a c))
-counts_before (Ok done) state first second a b c one other = λ told. counts_then first (second state.byte_at) a b c one (other told)
-counts_before (Err fault) state first second a b c one other = tt
 
 -- uses of one element of a list, counted after those of the elements before it
 pub counts_entry : {X : Type 0} (f : X → List ClusterUse) (xs : List X) (i : ℕ) (d : X) (a b c : TallyState) → i < length xs
@@ -207,3 +159,11 @@ unallocated_more f numbers i (suc k) none within zeros =
     let last : get_or numbers (i + k) 0 ≡ 0 = zeros k (omega arith) in
     rw (sum, uses_more f numbers (i + k) 0 (omega (arith, within)), last, none, append-nil (flat_map f (take (i + k) numbers)))
     (unallocated_more f numbers i k none (omega (arith, within)) (λ j below. zeros j (omega (arith, below))))
+
+-- the number of the guest cluster of each entry that an L1 table of the most entries leads to fits 40 bits
+pub guest_fits : (cb index l2_index : ℕ) → cb ≤ 21 → index < 4194304 → l2_index < 2 ^ (cb - 3) → index * 2 ^ (cb - 3) + l2_index < 2 ^ 40
+guest_fits cb index l2_index low l1 l2 =
+    let few : cb - 3 ≤ 18 = omega (arith, low) in
+    let entries : 2 ^ (cb - 3) ≤ 2 ^ 18 = pow_mono few in
+    let below = mul-add-lt index (2 ^ (cb - 3)) l2_index 4194304 l1 l2 in
+    omega (arith, below, entries)

@@ -15,11 +15,11 @@ use Rattle.qcow2_check.specs.NamedTables.{loaded_l1_table}
 use Rattle.qcow2_check.specs.Tally.{TallyState, ClusterUse, cell_at, cell_with, mark_of}
 use Rattle.qcow2_check.specs.Uses.{ImageTables, all_load, image_uses, uses_of}
 use Rattle.qcow2_check.specs.declared.findings.Finding.{Finding}
-use Rattle.qcow2_check.specs.declared.tally.UseKind.{UseKind}
-use Rattle.qcow2_check.specs.declared.tally.UseKind.TheVariants.{Fixed, L2Table}
+use Rattle.qcow2_check.specs.declared.tally.TallyKind.{TallyKind}
+use Rattle.qcow2_check.specs.declared.tally.TallyKind.TheVariants.{Fixed, L2Table}
 
 -- how many of some uses are those of cluster c of one kind
-abbrev pub uses_of_kind : UseKind → List ClusterUse → ℕ → ℕ
+abbrev pub uses_of_kind : TallyKind → List ClusterUse → ℕ → ℕ
 uses_of_kind kind uses c =
     sum_by (λ (used : ClusterUse). one_if (mark_of used.kind == mark_of kind && is_among used.clusters c)) uses
 

@@ -2,10 +2,12 @@ pub mod Counters
 pub mod Failures
 pub mod Findings
 pub mod Flags
+pub mod ImageTables
 pub mod L1Length
 pub mod NamedTables
 pub mod Tally
 pub mod Totals
 pub mod Uses
 pub mod Verdict
+pub mod Walk
 pub mod Windows

@@ -9,27 +9,27 @@ use Rattle.qcow2_base.specs.Format.{max_file_length}
 use Rattle.qcow2_metadata.specs.Entries.{is_among}
 use Rattle.qcow2_metadata.specs.declared.entries.ClustersToFreeEntry.{ClustersToFreeEntry}
 use Rattle.qcow2_base.specs.declared.types.HostCluster.{HostCluster}
-use Rattle.qcow2_check.specs.declared.tally.UseKind.{UseKind}
-use Rattle.qcow2_check.specs.declared.tally.UseKind.TheVariants.{Fixed, Guest, L2Table}
+use Rattle.qcow2_check.specs.declared.tally.TallyKind.{TallyKind}
+use Rattle.qcow2_check.specs.declared.tally.TallyKind.TheVariants.{Fixed, Guest, L2Table}
 
 -- clusters that have a use of one kind
 pub record ClusterUse : Type 0 where
-  pub kind : UseKind
+  pub kind : TallyKind
   pub clusters : ClustersToFreeEntry
 
 -- that many clusters from one on, used in this way
-abbrev pub used_clusters : UseKind → HostCluster → ℕ → ClusterUse
+abbrev pub used_clusters : TallyKind → HostCluster → ℕ → ClusterUse
 used_clusters kind first count =
     record { kind = kind; clusters = record { first = first; count = record { 0 = count } } }
 
 -- the number that marks a kind in a cell
-abbrev pub mark_of : UseKind → ℕ
+abbrev pub mark_of : TallyKind → ℕ
 mark_of Fixed = 1
 mark_of L2Table = 2
 mark_of Guest = 4
 
 -- a cell counts the uses of a cluster: eight times how many there are, and the marks of their kinds. The cell with one use more
-abbrev pub with_use : UseKind → ℕ → ℕ
+abbrev pub with_use : TallyKind → ℕ → ℕ
 with_use kind cell = cell + 8 + (if cell / mark_of kind % 2 == 1 then 0 else mark_of kind)
 
 -- the cell of cluster c with what clusters that are used add to it
@@ -73,7 +73,7 @@ pub record CountsMore (uses : List ClusterUse) (old new : TallyState) : Type 0 w
   pub cells : (c : ℕ) → old.first ≤ c → c < new.end → cell_at new c ≡ fold (cell_with c) (cell_at old c) uses
 
 -- whether a cell has the mark of a kind
-abbrev pub has_mark : UseKind → ℕ → Bool
+abbrev pub has_mark : TallyKind → ℕ → Bool
 has_mark kind cell = cell / mark_of kind % 2 == 1
 
 -- whether a cell counts uses that exclude each other

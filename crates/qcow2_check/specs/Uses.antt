@@ -14,7 +14,7 @@ use Rattle.qcow2_metadata.specs.Table.{l2_layout, loaded_l2_table}
 use Rattle.qcow2_metadata.specs.Table.L2Guards.{one_if}
 use Rattle.qcow2_check.specs.NamedTables.{l1_cluster, named_block, named_cluster, reftable_cluster}
 use Rattle.qcow2_check.specs.Tally.{ClusterUse, used_clusters}
-use Rattle.qcow2_check.specs.declared.tally.UseKind.TheVariants.{Fixed, Guest, L2Table}
+use Rattle.qcow2_check.specs.declared.tally.TallyKind.TheVariants.{Fixed, Guest, L2Table}
 
 -- the tables of an image that name clusters: its header, its L1 table and its refcount table
 pub record ImageTables : Type 0 where

@@ -10,8 +10,8 @@ ghost use Rattle.qcow2_metadata.specs.Results.{Reads};
 ghost use Rattle.qcow2_check.specs.Counters.{IsCountedEnd, IsKeptBlockOf, IsReftableFault, IsSameButBlock, block_of_cluster, block_place_fault, blocks_fault, numbers_of_kept};
 ghost use Rattle.qcow2_check.specs.NamedTables.{reftable_cluster, reftable_layout};
 
+use crate::counting::TOGETHER;
 use crate::named_tables::{load_reftable, named_block};
-use crate::uses::TOGETHER;
 use qcow2_base::{Fault, HostCluster, MAX_FILE_LENGTH, Storage};
 use qcow2_metadata::{Header, RefBlock, RefTable, Table};
 use std::alloc::Global;
@@ -29,7 +29,8 @@ pub struct Counters<'a> {
 }
 
 impl<'a> Model for Counters<'a> {
-    ghost use Rattle.std.specs.Prelude.{◌≡◌, None, Some, IfSome, IsSomeAnd, slice_index};
+    ghost use Rattle.std.specs.Prelude.{◌≡◌, ◌≤◌, None, Some, IfSome, IsSomeAnd, length, slice_index};
+    ghost use Rattle.qcow2_base.specs.Format.{most_reftable_entries};
     ghost use Rattle.qcow2_metadata.specs.Header.{geometry_of};
     ghost use Rattle.qcow2_metadata.specs.Refblock.{block_geometry_of};
     ghost use Rattle.qcow2_check.specs.Counters.{CountersState, blocks_fault};
@@ -44,6 +45,7 @@ impl<'a> Model for Counters<'a> {
     } };
 
     ghost invariant = { λ c. (c.reftable.geometry ≡ geometry_of c.header.now)
+        × (length c.reftable.numbers ≤ most_reftable_entries)
         × (blocks_fault c.header.now c.reftable.numbers ≡ None)
         × IfSome c.block (λ block. (block.geometry ≡ block_geometry_of c.header.now)
         × IsSomeAnd block.cluster (λ place. named_block c.header.now.v2.cluster_bits
@@ -176,8 +178,8 @@ pub fn counted_end(header: &Header, reftable: &RefTable) -> u64
 }
 
 impl<'a> Counters<'a> {
-    ghost use Rattle.std.specs.Prelude.{◌≡◌, ℕ, ◌+◌, ◌-◌, ◌%◌, ◌<◌, ◌≤◌, None, Some, IfOk, IfSome, IsSomeAnd, IsTrue, is_some, slice_index};
-    ghost use Rattle.qcow2_base.specs.Format.{max_file_length};
+    ghost use Rattle.std.specs.Prelude.{◌≡◌, ℕ, ◌+◌, ◌-◌, ◌%◌, ◌<◌, ◌≤◌, None, Some, IfOk, IfSome, IsSomeAnd, IsTrue, is_some, length, slice_index};
+    ghost use Rattle.qcow2_base.specs.Format.{max_file_length, most_reftable_entries};
     ghost use Rattle.qcow2_base.specs.Storage.{Image};
     ghost use Rattle.qcow2_check.specs.Counters.{IsCountedEnd, block_of_cluster, blocks_fault, counter_of, counters_each, placed_reftable};
 
@@ -338,6 +340,7 @@ impl<'a> Counters<'a> {
     pub fn reftable(&self) -> &RefTable
         ensures numbers { result.now.numbers ≡ self.now.reftable }
         ensures geometry { result.now.geometry ≡ geometry_of self.now.header }
+        ensures entries { length self.now.reftable ≤ most_reftable_entries }
         ensures placed { blocks_fault self.now.header self.now.reftable ≡ None }
     {
         &self.reftable
@@ -347,6 +350,7 @@ impl<'a> Counters<'a> {
     pub fn into_reftable(self) -> RefTable
         ensures numbers { result.numbers ≡ self.entry.reftable }
         ensures geometry { result.geometry ≡ geometry_of self.entry.header }
+        ensures entries { length self.entry.reftable ≤ most_reftable_entries }
         ensures placed { blocks_fault self.entry.header self.entry.reftable ≡ None }
     {
         self.reftable

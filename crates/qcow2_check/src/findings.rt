@@ -12,6 +12,7 @@ ghost use Rattle.qcow2_check.specs.Uses.{all_load, image_tables};
 
 use crate::counters::Counters;
 use crate::flags::Flags;
+use crate::image_tables::ImageTables;
 use crate::named_tables::load_l1_table;
 use crate::tally::{Tally, count_of, is_shared};
 use crate::windows::Windows;
@@ -159,8 +160,8 @@ fn is_right(counter: u64, cell: u64) -> bool
 }
 
 impl<'a> Findings<'a> {
-    ghost use Rattle.std.specs.Prelude.{◌≡◌, ◌<◌, ◌≤◌, Ok, Err, None, IfErr, IfOk, IfSome, IsSome, IsSomeAnd, IsTrue, OnOk, is_some, ◌+◌, ◌↔◌};
-    ghost use Rattle.qcow2_base.specs.Format.{max_file_length};
+    ghost use Rattle.std.specs.Prelude.{◌≡◌, ◌<◌, ◌≤◌, Ok, Err, None, IfErr, IfOk, IfSome, IsSome, IsSomeAnd, IsTrue, OnOk, is_some, length, ◌+◌, ◌↔◌};
+    ghost use Rattle.qcow2_base.specs.Format.{max_file_length, most_l1_entries, most_reftable_entries};
     ghost use Rattle.qcow2_base.specs.Storage.{Image, OnImage, OnlyReads};
     ghost use Rattle.qcow2_check.specs.Counters.{block_of_cluster, blocks_fault, counter_of};
     ghost use Rattle.qcow2_base.specs.declared.fault.Fault.TheVariants.{Uncounted};
@@ -191,9 +192,13 @@ impl<'a> Findings<'a> {
         }
         let l1_table = load_l1_table(alloc, image, header)?;
         let counters = Counters::new(alloc, image, header)?;
-        let reftable = counters.reftable();
-        let mut windows = Windows::new(header, &l1_table, reftable);
-        let tally = windows.count(image, header, &l1_table, reftable, 0)?;
+        let tables = ImageTables {
+            header,
+            l1_table: &l1_table,
+            reftable: counters.reftable(),
+        };
+        let mut windows = Windows::new(&tables);
+        let tally = windows.count(image, &tables, 0)?;
         Ok(Findings {
             header,
             l1_table,
@@ -249,6 +254,8 @@ impl<'a> Findings<'a> {
             × (result.1.numbers ≡ self.entry.counters.reftable) }
         ensures geometry { (result.0.geometry ≡ geometry_of self.entry.header)
             × (result.1.geometry ≡ geometry_of self.entry.header) }
+        ensures entries { (length self.entry.l1 ≤ most_l1_entries)
+            × (length self.entry.counters.reftable ≤ most_reftable_entries) }
         ensures placed { blocks_fault self.entry.header self.entry.counters.reftable ≡ None }
     {
         (self.l1_table, self.counters.into_reftable())
@@ -386,14 +393,12 @@ impl<'a> Findings<'a> {
         }
         // Its memory is given back before the next window takes as much.
         self.tally = None;
-        let reftable = self.counters.reftable();
-        let tally = self.windows.count(
-            image,
-            self.header,
-            &self.l1_table,
-            reftable,
-            self.position,
-        )?;
+        let tables = ImageTables {
+            header: self.header,
+            l1_table: &self.l1_table,
+            reftable: self.counters.reftable(),
+        };
+        let tally = self.windows.count(image, &tables, self.position)?;
         self.tally = Some(tally);
         Ok(())
     }

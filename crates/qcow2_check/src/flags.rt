@@ -12,8 +12,8 @@ ghost use Rattle.qcow2_check.specs.Counters.{IsKeptBlockOf, IsSameButBlock, coun
 ghost use Rattle.qcow2_check.specs.Flags.{HasNoFlag, TakesFlag, data_counter, flagged_cluster, l2_flag, l2_flags_from, wrong_flag};
 
 use crate::counters::Counters;
+use crate::counting::{TOGETHER, are_unallocated, entry_at};
 use crate::named_tables::{load_l2_table, named_cluster};
-use crate::uses::{TOGETHER, are_unallocated, entry_at};
 use qcow2_base::{Fault, GuestCluster, GuestOffset, HostCluster, HostOffset, Storage, field};
 use qcow2_metadata::{Header, L1Table, L2Entry, L2Table, Table, TableEntry};
 use std::marker::Model;

@@ -1,22 +1,30 @@
-//! What an image says of its own clusters: how many uses each has, and what its counter says.
+//! What an image says of its own clusters: what uses each, how many uses it has, and what its counter says.
 #![tactic(auto)]
 
 mod counters;
+mod counting;
 mod findings;
 mod flags;
+mod image_tables;
 mod l1_length;
 mod named_tables;
 pub mod parts;
 mod tally;
 mod totals;
+mod use_sink;
 mod uses;
 mod verdict;
+mod walk;
 mod windows;
 
 pub use counters::Counters;
 pub use findings::{Finding, Findings};
 pub use flags::{FlagPlace, Flags, WrongFlag};
+pub use image_tables::ImageTables;
 pub use l1_length::{is_l1_short, needed_l1_entries, refuse_short_l1};
 pub use named_tables::{load_l1_table, load_l2_table, load_reftable, named_block, named_cluster};
 pub use totals::Totals;
+pub use use_sink::UseSink;
+pub use uses::{Use, UseKind};
 pub use verdict::Verdict;
+pub use walk::{walk_guest, walk_tables, walk_uses};

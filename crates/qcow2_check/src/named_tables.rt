@@ -1,6 +1,7 @@
 //! The tables and refcount blocks that an image names.
 
-ghost use Rattle.std.specs.Prelude.{◌≡◌, IfErr, IfOk, IfSome, slice_index};
+ghost use Rattle.std.specs.Prelude.{◌≡◌, ◌≤◌, IfErr, IfOk, IfSome, length, slice_index};
+ghost use Rattle.qcow2_base.specs.Format.{most_l1_entries, most_reftable_entries};
 ghost use Rattle.qcow2_metadata.specs.Header.{geometry_of};
 ghost use Rattle.qcow2_metadata.specs.Placed.{IsLoaded, RefusesPlace};
 ghost use Rattle.qcow2_metadata.specs.Results.{Reads};
@@ -12,6 +13,7 @@ use qcow2_metadata::{Header, L1Table, L2Table, RefTable, Table};
 use std::alloc::Global;
 
 /// The L1 table of an image with this header, as `L1Table::load` loads it.
+#[tactic(auto, using(crate::proofs::NamedTablesLemmas::few_entries))]
 pub fn load_l1_table<S: Storage>(
     alloc: Global,
     image: &mut S,
@@ -23,12 +25,14 @@ pub fn load_l1_table<S: Storage>(
         (S.state image.old) (S.state image.new) }
     ensures loaded { IfOk result (IsLoaded (l1_layout header.now) (geometry_of header.now)
         (l1_cluster header.now) (S.state image.old)) }
+    ensures entries { IfOk result (λ table. length table.numbers ≤ most_l1_entries) }
 {
     let cluster = header.l1_table_offset().cluster(header.cluster_bits());
     L1Table::load(alloc, image, header, cluster, header.l1_table_entries())
 }
 
 /// The refcount table of an image with this header, as `RefTable::load` loads it.
+#[tactic(auto, using(crate::proofs::NamedTablesLemmas::few_blocks))]
 pub fn load_reftable<S: Storage>(
     alloc: Global,
     image: &mut S,
@@ -40,6 +44,7 @@ pub fn load_reftable<S: Storage>(
         (S.state image.old) (S.state image.new) }
     ensures loaded { IfOk result (IsLoaded (reftable_layout header.now) (geometry_of header.now)
         (reftable_cluster header.now) (S.state image.old)) }
+    ensures entries { IfOk result (λ table. length table.numbers ≤ most_reftable_entries) }
 {
     let cluster = header.reftable_offset().cluster(header.cluster_bits());
     RefTable::load(alloc, image, header, cluster, header.reftable_entries())

@@ -15,7 +15,7 @@ use std::marker::Model;
 
 /// What uses a cluster.
 #[derive(Clone, Copy, Debug, PartialEq, Eq)]
-pub enum UseKind {
+pub enum TallyKind {
     /// The header, the L1 table, the refcount table, or an entry of the refcount table.
     Fixed,
     /// An entry of the L1 table.
@@ -24,23 +24,23 @@ pub enum UseKind {
     Guest,
 }
 
-impl UseKind {
+impl TallyKind {
     // The number that marks the kind in a cell.
     #[inline]
     fn mark(self) -> u64
         ensures { result ≡ mark_of self }
     {
         match self {
-            UseKind::Fixed => 1,
-            UseKind::L2Table => 2,
-            UseKind::Guest => 4,
+            TallyKind::Fixed => 1,
+            TallyKind::L2Table => 2,
+            TallyKind::Guest => 4,
         }
     }
 }
 
 // The cell with one use more, if its number fits.
 #[inline(always)]
-fn with_use(cell: u64, kind: UseKind) -> Option<u64>
+fn with_use(cell: u64, kind: TallyKind) -> Option<u64>
     ensures { IfSome result (λ more. more ≡ with_use kind cell) }
 {
     with_use_if(cell, kind, true)
@@ -48,7 +48,7 @@ fn with_use(cell: u64, kind: UseKind) -> Option<u64>
 
 // The same if the cluster is used, and else the cell as it is. Has no branch.
 #[inline(always)]
-fn with_use_if(cell: u64, kind: UseKind, is_used: bool) -> Option<u64>
+fn with_use_if(cell: u64, kind: TallyKind, is_used: bool) -> Option<u64>
     ensures used { IfSome result (λ more. IsTrue is_used → more ≡ with_use kind cell) }
     ensures unused { IfSome result (λ more. is_used ≡ false → more ≡ cell) }
 {
@@ -196,7 +196,7 @@ impl Tally {
     /// ones or would count too many. Returns whether all is done; else nothing changes. Has no branch that
     /// depends on whether the cluster is used.
     #[inline(always)]
-    pub(crate) fn try_add_if(&mut self, cluster: u64, kind: UseKind, is_used: bool) -> bool
+    pub(crate) fn try_add_if(&mut self, cluster: u64, kind: TallyKind, is_used: bool) -> bool
         ensures counted { IsTrue result → IsTrue is_used → CountsMore
             (used_clusters kind (record { 0 = cluster }) 1 ∷ []) self.old self.new }
         ensures unused { is_used ≡ false → self.new ≡ self.old }
@@ -216,7 +216,7 @@ impl Tally {
 
     /// Counts a use of a cluster, where the tally has its cell. Where there are too many cells it ends before
     /// the last of them.
-    pub(crate) fn add(&mut self, cluster: u64, kind: UseKind) -> Result<(), Fault>
+    pub(crate) fn add(&mut self, cluster: u64, kind: TallyKind) -> Result<(), Fault>
         ensures fault { IsOkUnless result NoMemory }
         ensures counted { OnOk result (CountsMore
             (used_clusters kind (record { 0 = cluster }) 1 ∷ []) self.old self.new) }
@@ -232,7 +232,7 @@ impl Tally {
 
     // The same of a cluster that is after the dense cells.
     #[inline(never)]
-    fn add_sparse(&mut self, cluster: u64, kind: UseKind) -> Result<(), Fault>
+    fn add_sparse(&mut self, cluster: u64, kind: TallyKind) -> Result<(), Fault>
         requires after { dense_end self.old ≤ cluster }
         requires before { cluster < self.old.end }
         ensures fault { IsOkUnless result NoMemory }

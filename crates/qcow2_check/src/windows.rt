@@ -8,14 +8,15 @@ ghost use Rattle.qcow2_metadata.specs.Results.{Reads};
 ghost use Rattle.qcow2_metadata.specs.Table.{IsEntryFault};
 ghost use Rattle.qcow2_check.specs.Counters.{IsCountedEnd};
 ghost use Rattle.qcow2_check.specs.Findings.{CountsAll};
-ghost use Rattle.qcow2_check.specs.Uses.{all_load, image_tables};
+ghost use Rattle.qcow2_check.specs.Uses.{all_load};
 ghost use Rattle.qcow2_check.specs.Windows.{IsWindow, cell_bytes, most_cell_bytes};
 
 use crate::counters::counted_end;
+use crate::counting::{count_image, most_uses};
+use crate::image_tables::ImageTables;
 use crate::tally::Tally;
-use crate::uses::{count_image, most_uses};
 use qcow2_base::{Fault, MAX_FILE_LENGTH, Storage};
-use qcow2_metadata::{Header, L1Table, RefTable, Table};
+use qcow2_metadata::Table;
 
 // The fewest cells that lie one after another.
 const FEW_CELLS: usize = 4096;
@@ -66,14 +67,13 @@ pub struct Windows {
 
 impl Windows {
     /// The windows of an image with these tables.
-    pub fn new(header: &Header, l1_table: &L1Table, reftable: &RefTable) -> Windows
-        requires { reftable.now.geometry ≡ geometry_of header.now }
-        ensures counted { IsCountedEnd header.now reftable.now.numbers result.counted }
+    pub fn new(tables: &ImageTables<'_>) -> Windows
+        ensures counted { IsCountedEnd tables.now.header tables.now.reftable result.counted }
         ensures is_sparse { result.is_sparse ≡ false }
     {
         Windows {
-            counted: counted_end(header, reftable),
-            is_wide: most_uses(header, l1_table, reftable) >= MANY_USES,
+            counted: counted_end(tables.header, tables.reftable),
+            is_wide: most_uses(tables) >= MANY_USES,
             is_sparse: false,
         }
     }
@@ -105,18 +105,14 @@ impl Windows {
     pub fn count<S: Storage>(
         &mut self,
         image: &mut S,
-        header: &Header,
-        l1_table: &L1Table,
-        reftable: &RefTable,
+        tables: &ImageTables<'_>,
         first: u64,
     ) -> Result<Tally, Fault>
-        requires first { first < max_file_length }
-        requires l1_table { l1_table.now.geometry ≡ geometry_of header.now }
-        requires reftable { reftable.now.geometry ≡ geometry_of header.now }
-        ensures reads { Reads (λ _. tt) result (all_load (geometry_of header.now) l1_table.now.numbers)
+        requires { first < max_file_length }
+        ensures reads { Reads (λ _. tt) result (all_load (geometry_of tables.now.header) tables.now.l1)
             IsEntryFault (S.state image.old) (S.state image.new) }
-        ensures counted { IfOk result (λ tally. OnImage (S.state image.old) (λ bytes. CountsAll
-            (image_tables header.now l1_table.now.numbers reftable.now.numbers) bytes tally)) }
+        ensures counted { IfOk result (λ tally. OnImage (S.state image.old) (λ bytes.
+            CountsAll tables.now bytes tally)) }
         ensures first { IfOk result (λ tally. (tally.first ≡ first) × (first < tally.end)
             × (tally.end ≤ max_file_length)) }
         ensures same { self.new ≡ record self.old { is_sparse = self.new.is_sparse } }
@@ -127,8 +123,9 @@ impl Windows {
             most,
             is_wide,
         } = self.at(first);
-        let mut tally = Tally::new(l1_table.allocator(), first, dense, most, is_wide)?;
-        count_image(&mut tally, image, header, l1_table, reftable)?;
+        let alloc = tables.l1_table.allocator();
+        let mut tally = Tally::new(alloc, first, dense, most, is_wide)?;
+        count_image(&mut tally, image, tables)?;
         prove!(first < tally.end());
         self.is_sparse |= tally.used() < MOST_SPARSE;
         Ok(tally)

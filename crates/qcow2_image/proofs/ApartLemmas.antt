@@ -13,7 +13,7 @@ use Rattle.qcow2_summary.proofs.ApartLemmas.{first-used, l1-used, named-apart}
 use Rattle.qcow2_check.specs.Findings.{AreRight, uses_of_kind}
 use Rattle.qcow2_check.specs.NamedTables.{l1_cluster, l1_layout, named_cluster}
 use Rattle.qcow2_check.specs.Uses.{ImageTables, header_uses}
-use Rattle.qcow2_check.specs.declared.tally.UseKind.TheVariants.{Fixed}
+use Rattle.qcow2_check.specs.declared.tally.TallyKind.TheVariants.{Fixed}
 use Rattle.qcow2_metadata.proofs.TableLemmas.{full_cluster}
 use Rattle.qcow2_image.specs.WholeImage.{HasTableApart, IsWithin, ShareNoByte, first_cluster_bytes, l2_bytes, table_bytes}
 

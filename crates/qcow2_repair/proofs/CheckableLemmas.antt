@@ -22,7 +22,7 @@ use Rattle.qcow2_check.proofs.FindingsLemmas.{excludes, kind-cons, uses_by_kind}
 use Rattle.qcow2_check.specs.Findings.{checked_tables, is_shared, uses_of_kind}
 use Rattle.qcow2_check.specs.NamedTables.{l1_cluster, l1_layout, loaded_l1_table, loaded_reftable, reftable_cluster, reftable_layout}
 use Rattle.qcow2_check.specs.Uses.{ImageTables, header_uses, image_tables, image_uses}
-use Rattle.qcow2_check.specs.declared.tally.UseKind.TheVariants.{Fixed}
+use Rattle.qcow2_check.specs.declared.tally.TallyKind.TheVariants.{Fixed}
 use Rattle.qcow2_repair.proofs.FlagsLemmas.{passed_cases}
 use Rattle.qcow2_repair.proofs.FoundLemmas.{checked-found, fine-parts, found-repairable, ok-same, repairable-found-written}
 use Rattle.qcow2_repair.proofs.HeaderLemmas.{loads-written, past-first, text-fits}

@@ -14,7 +14,8 @@ use Rattle.qcow2_metadata.proofs.CopiedLemmas.{offset_field-with_copied}
 use Rattle.qcow2_metadata.proofs.EntriesLemmas.{div_rises}
 use Rattle.qcow2_metadata.proofs.TableLemmas.{table_numbers_same}
 use Rattle.qcow2_metadata.specs.Header.{Geometry, HeaderRecord, geometry_of}
-use Rattle.qcow2_metadata.specs.Placed.{offset_of}
+use Rattle.qcow2_base.specs.Format.{most_l1_entries}
+use Rattle.qcow2_metadata.specs.Placed.{offset_of, place_fault}
 use Rattle.qcow2_metadata.specs.Results.{result_map}
 use Rattle.qcow2_metadata.specs.Table.{loaded_l2_table}
 use Rattle.qcow2_summary.proofs.ApartLemmas.{header-used, l1-used, named-below, named-used}
@@ -364,3 +365,7 @@ pub l1-after : (tables : ImageTables) (flag : Bool) (tally : TallyState) (start 
     → PassesL2 (tally_pass tables flag tally) (map (passed_l1 (tally_pass tables flag tally)) tables.l1) mid new → l1_in tables.header new ≡ l1_in tables.header mid
 l1-after tables flag tally start mid new is passes =
     l1-kept tables start mid new is (λ o outside. passes.others o (λ table names. outside table (names-from (tally_pass tables flag tally) tables.l1 table names)))
+
+-- an L1 table that can lie where a header says has no more entries than one may have
+pub l1_fits : (header : HeaderRecord) → place_fault (l1_layout header) (l1_cluster header) ≡ None → header.v2.l1_size ≤ most_l1_entries
+l1_fits header placed = grind (arith, nat_tests, placed)

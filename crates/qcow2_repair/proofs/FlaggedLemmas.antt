@@ -16,7 +16,7 @@ use Rattle.qcow2_check.specs.NamedTables.{named_cluster}
 use Rattle.qcow2_check.specs.Tally.{ClusterUse, used_clusters}
 use Rattle.qcow2_check.specs.Uses.{ImageTables, block_uses, entry_uses, header_uses, image_uses, l1_entry_uses, table_uses, uses_of}
 use Rattle.qcow2_check.specs.declared.flags.WrongFlag.{WrongFlag}
-use Rattle.qcow2_check.specs.declared.tally.UseKind.TheVariants.{L2Table}
+use Rattle.qcow2_check.specs.declared.tally.TallyKind.TheVariants.{L2Table}
 use Rattle.qcow2_repair.specs.Flags.{NamesTable, l2_in}
 
 -- uses of a cluster in one list and in another

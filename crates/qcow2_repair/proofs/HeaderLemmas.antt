@@ -22,7 +22,7 @@ use Rattle.qcow2_check.specs.NamedTables.{l1_cluster, l1_layout, loaded_l1_table
 use Rattle.qcow2_check.specs.Counters.{block_of_cluster, blocks_fault, counter_of}
 use Rattle.qcow2_check.specs.Tally.{used_clusters}
 use Rattle.qcow2_check.specs.Uses.{ImageTables, block_uses, entry_uses, header_uses, image_tables, image_uses, l1_entry_uses}
-use Rattle.qcow2_check.specs.declared.tally.UseKind.TheVariants.{Fixed, L2Table}
+use Rattle.qcow2_check.specs.declared.tally.TallyKind.TheVariants.{Fixed, L2Table}
 use Rattle.qcow2_repair.proofs.CountersLemmas.{block-same}
 use Rattle.qcow2_repair.proofs.OrderLemmas.{fixed-both}
 use Rattle.qcow2_repair.proofs.RepairLemmas.{all-load-same, blocks-used, flat_map-same}

@@ -16,7 +16,7 @@ use Rattle.qcow2_check.specs.Counters.{blocks_fault, counters_each}
 use Rattle.qcow2_check.specs.Findings.{is_shared, uses_of_kind}
 use Rattle.qcow2_check.specs.NamedTables.{l1_cluster, l1_layout, named_block}
 use Rattle.qcow2_check.specs.Uses.{ImageTables, block_uses, header_uses, image_uses, l1_entry_uses}
-use Rattle.qcow2_check.specs.declared.tally.UseKind.TheVariants.{Fixed}
+use Rattle.qcow2_check.specs.declared.tally.TallyKind.TheVariants.{Fixed}
 use Rattle.qcow2_repair.proofs.CountersLemmas.{below-end, place_of_named}
 use Rattle.qcow2_repair.proofs.RepairLemmas.{blocks-used}
 use Rattle.qcow2_repair.specs.Repair.{IsRepairable}

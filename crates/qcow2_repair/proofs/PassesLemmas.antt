@@ -18,7 +18,7 @@ use Rattle.qcow2_check.specs.Flags.{flagged_cluster}
 use Rattle.qcow2_check.specs.NamedTables.{named_cluster}
 use Rattle.qcow2_check.specs.Tally.{ClusterUse, used_clusters}
 use Rattle.qcow2_check.specs.Uses.{ImageTables, all_load, entry_uses, image_tables, image_uses, l1_entry_loads, l1_entry_uses, uses_of}
-use Rattle.qcow2_check.specs.declared.tally.UseKind.TheVariants.{L2Table}
+use Rattle.qcow2_check.specs.declared.tally.TallyKind.TheVariants.{L2Table}
 use Rattle.qcow2_repair.proofs.FlagsLemmas.{has_flag, passed_cases, table-valid, twice-passed}
 use Rattle.qcow2_repair.proofs.RepairLemmas.{entry-loads}
 use Rattle.qcow2_repair.proofs.FlagWindowsLemmas.{IsPart, all-load-map, between-map, due-none, due-same, l1-part, l2-part, loads-by, map-same, named-passed, names-from, names-same, names-to, pass_of}

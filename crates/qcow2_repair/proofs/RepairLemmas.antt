@@ -15,7 +15,7 @@ use Rattle.qcow2_check.specs.Findings.{is_shared, uses_of_kind}
 use Rattle.qcow2_check.specs.NamedTables.{named_block, named_cluster}
 use Rattle.qcow2_check.specs.Tally.{ClusterUse, used_clusters}
 use Rattle.qcow2_check.specs.Uses.{ImageTables, all_load, block_uses, entry_uses, header_uses, image_uses, l1_entry_loads, l1_entry_uses}
-use Rattle.qcow2_check.specs.declared.tally.UseKind.TheVariants.{Fixed, L2Table}
+use Rattle.qcow2_check.specs.declared.tally.TallyKind.TheVariants.{Fixed, L2Table}
 use Rattle.qcow2_repair.specs.Repair.{IsRepairable}
 use Rattle.qcow2_repair.specs.Counters.{IsOutsideBlocks}
 

@@ -12,7 +12,7 @@ use Rattle.qcow2_check.specs.Counters.{block_of_cluster, counters_each}
 use Rattle.qcow2_check.specs.NamedTables.{named_cluster}
 use Rattle.qcow2_check.specs.Tally.{ClusterUse, used_clusters}
 use Rattle.qcow2_check.specs.Uses.{ImageTables, entry_uses, image_uses, l1_entry_uses, uses_of}
-use Rattle.qcow2_check.specs.declared.tally.UseKind.TheVariants.{L2Table}
+use Rattle.qcow2_check.specs.declared.tally.TallyKind.TheVariants.{L2Table}
 use Rattle.qcow2_repair.proofs.CountersLemmas.{ChangesBlock, changes-block, counter-elsewhere, others-stay}
 use Rattle.qcow2_repair.proofs.FlagWindowsLemmas.{named-passed}
 use Rattle.qcow2_repair.proofs.FlagsLemmas.{outside-stays}

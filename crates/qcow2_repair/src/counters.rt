@@ -8,16 +8,16 @@ ghost use Rattle.qcow2_base.specs.declared.fault.Fault.TheVariants.{CounterRange
 ghost use Rattle.qcow2_metadata.specs.Placed.{offset_of, place_fault};
 ghost use Rattle.qcow2_metadata.specs.Refblock.{block_entries, block_geometry_of, block_layout, greatest_counter};
 ghost use Rattle.qcow2_metadata.specs.Results.{IsFromOutside};
+ghost use Rattle.qcow2_check.specs.Counters.{blocks_fault};
 ghost use Rattle.qcow2_check.specs.Findings.{CountsAll, IsLaterFault};
 ghost use Rattle.qcow2_check.specs.Tally.{cell_at};
 ghost use Rattle.qcow2_repair.specs.Repair.{IsRepairFault, IsRepairable};
 ghost use Rattle.qcow2_check.specs.Failures.{ReportsFailures};
 ghost use Rattle.qcow2_repair.specs.Counters.{BreaksOff, IsPastCounters, PassesBetween, PassesBlock, PassesCounters, block_counters, counter_towards};
 
-use crate::tables::Tables;
 use qcow2_base::{Device, Fault, HostCluster, MAX_FILE_LENGTH, Storage};
-use qcow2_check::named_block;
 use qcow2_check::parts::{Tally, Windows, count_of, counted_end};
+use qcow2_check::{ImageTables, named_block};
 use qcow2_metadata::{RefBlock, Table};
 
 /// Which counters a pass changes.
@@ -104,7 +104,7 @@ fn pass_counters(
 // Passes over counters of the block that begins with a cluster of an image with this header.
 fn pass_block<S: Storage>(
     image: &mut S,
-    tables: &Tables<'_>,
+    tables: &ImageTables<'_>,
     cluster: HostCluster,
     tally: &Tally,
     part: BlockPart,
@@ -134,7 +134,7 @@ fn pass_block<S: Storage>(
 fn keep_tally<S: Storage>(
     kept: &mut Option<Tally>,
     image: &mut S,
-    tables: &Tables<'_>,
+    tables: &ImageTables<'_>,
     windows: &mut Windows,
     cluster: u64,
 ) -> Result<(), Fault>
@@ -154,13 +154,7 @@ fn keep_tally<S: Storage>(
     }
     // Its memory is given back before the next window takes as much.
     *kept = None;
-    *kept = Some(windows.count(
-        image,
-        tables.header,
-        tables.l1_table,
-        tables.reftable,
-        cluster,
-    )?);
+    *kept = Some(windows.count(image, tables, cluster)?);
     Ok(())
 }
 
@@ -169,13 +163,14 @@ fn keep_tally<S: Storage>(
 #[tactic(auto, using(crate::proofs::CountersLemmas::place_of_named))]
 fn pass_from<S: Storage>(
     image: &mut S,
-    tables: &Tables<'_>,
+    tables: &ImageTables<'_>,
     kept: &mut Option<Tally>,
     windows: &mut Windows,
     cluster: u64,
     pass: CounterPass,
 ) -> Result<u64, Fault>
     requires cluster { cluster < max_file_length }
+    requires placed { blocks_fault tables.now.header tables.now.reftable ≡ None }
     requires repairable { OnImage (S.state image.old) (IsRepairable tables.now) }
     requires kept { OnImage (S.state image.old) (λ bytes. IfSome kept.old (CountsAll tables.now bytes)) }
     ensures passed { OnImages (S.state image.old) (S.state image.new) (λ before after.
@@ -209,10 +204,11 @@ fn pass_from<S: Storage>(
 /// Passes over all counters of an image with these tables, and waits until they are on the device.
 pub(crate) fn pass_all_counters<S: Device>(
     image: &mut S,
-    tables: &Tables<'_>,
+    tables: &ImageTables<'_>,
     pass: CounterPass,
 ) -> Result<(), Fault>
-    requires { OnImage (S.state image.old) (IsRepairable tables.now) }
+    requires placed { blocks_fault tables.now.header tables.now.reftable ≡ None }
+    requires repairable { OnImage (S.state image.old) (IsRepairable tables.now) }
     ensures passed { OnImages (S.state image.old) (S.state image.new) (λ before after.
         MatchResult result
         (λ _. PassesCounters tables.now pass before after)
@@ -220,7 +216,7 @@ pub(crate) fn pass_all_counters<S: Device>(
     ensures fault { IfErr result (IsRepairFault (S.state image.old)) }
     ensures storage { ReportsFailures result (S.state image.old) (S.state image.new) }
 {
-    let mut windows = Windows::new(tables.header, tables.l1_table, tables.reftable);
+    let mut windows = Windows::new(tables);
     let end = counted_end(tables.header, tables.reftable);
     let mut kept = None;
     let mut cluster = 0;

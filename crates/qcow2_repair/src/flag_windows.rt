@@ -6,8 +6,8 @@ ghost use Rattle.qcow2_base.specs.Storage.{OnImage, OnImages, OnlyWrites};
 ghost use Rattle.qcow2_base.specs.declared.fault.Fault.TheVariants.{Storage as StorageFailed};
 ghost use Rattle.qcow2_metadata.specs.Header.{geometry_of};
 ghost use Rattle.qcow2_metadata.specs.Placed.{offset_of, place_fault};
-ghost use Rattle.qcow2_check.specs.Counters.{blocks_fault};
 ghost use Rattle.qcow2_check.specs.Findings.{IsLaterFault};
+ghost use Rattle.qcow2_check.specs.ImageTables.{IsPlacedReftable};
 ghost use Rattle.qcow2_check.specs.NamedTables.{l1_cluster, l1_layout};
 ghost use Rattle.qcow2_check.specs.Uses.{image_tables};
 ghost use Rattle.qcow2_repair.specs.Repair.{IsRepairable};
@@ -16,6 +16,7 @@ ghost use Rattle.qcow2_repair.specs.Flags.{BreaksOffFlags, IsL1TableOf, PassesFl
 
 use crate::flags::FlagPass;
 use qcow2_base::{Device, Fault, Storage};
+use qcow2_check::ImageTables;
 use qcow2_check::parts::{Windows, counted_end};
 use qcow2_metadata::{Header, L1Table, RefTable, Table};
 
@@ -46,6 +47,7 @@ fn write_l1_table<S: Storage>(
 
 // Passes over the flags of entries whose clusters a window has, from this cluster on. Returns the end of the
 // window.
+#[tactic(auto, using(crate::proofs::FlagWindowsLemmas::l1_fits))]
 fn pass_window<S: Storage>(
     image: &mut S,
     header: &Header,
@@ -56,8 +58,7 @@ fn pass_window<S: Storage>(
     flag: bool,
 ) -> Result<u64, Fault>
     requires first { first < max_file_length }
-    requires reftable { (reftable.now.geometry ≡ geometry_of header.now)
-        × (blocks_fault header.now reftable.now.numbers ≡ None) }
+    requires reftable { IsPlacedReftable header.now reftable.now }
     requires placed { place_fault (l1_layout header.now) (l1_cluster header.now) ≡ None }
     requires l1_table { IsL1TableOf header.now (S.state image.old) l1_table.old }
     requires repairable { OnImage (S.state image.old)
@@ -71,7 +72,12 @@ fn pass_window<S: Storage>(
     ensures fault { IfErr result (IsLaterFault (S.state image.old)) }
     ensures storage { ReportsFailures result (S.state image.old) (S.state image.new) }
 {
-    let tally = windows.count(image, header, l1_table, reftable, first)?;
+    let tables = ImageTables {
+        header,
+        l1_table,
+        reftable,
+    };
+    let tally = windows.count(image, &tables, first)?;
     let pass = FlagPass {
         header,
         reftable,
@@ -87,6 +93,7 @@ fn pass_window<S: Storage>(
 /// Passes over all flags of an image with these tables, and keeps the L1 table as the image has it. Waits
 /// until they are on the device. There is a window in any case, since flags in an external data file depend
 /// on no counter.
+#[tactic(auto, using(crate::proofs::FlagWindowsLemmas::l1_fits))]
 pub(crate) fn pass_all_flags<S: Device>(
     image: &mut S,
     header: &Header,
@@ -94,8 +101,7 @@ pub(crate) fn pass_all_flags<S: Device>(
     reftable: &RefTable,
     flag: bool,
 ) -> Result<(), Fault>
-    requires reftable { (reftable.now.geometry ≡ geometry_of header.now)
-        × (blocks_fault header.now reftable.now.numbers ≡ None) }
+    requires reftable { IsPlacedReftable header.now reftable.now }
     requires placed { place_fault (l1_layout header.now) (l1_cluster header.now) ≡ None }
     requires l1_table { IsL1TableOf header.now (S.state image.old) l1_table.old }
     requires repairable { OnImage (S.state image.old)
@@ -108,7 +114,11 @@ pub(crate) fn pass_all_flags<S: Device>(
     ensures fault { IfErr result (IsLaterFault (S.state image.old)) }
     ensures storage { ReportsFailures result (S.state image.old) (S.state image.new) }
 {
-    let mut windows = Windows::new(header, l1_table, reftable);
+    let mut windows = Windows::new(&ImageTables {
+        header,
+        l1_table,
+        reftable,
+    });
     let end = counted_end(header, reftable);
     let mut first = pass_window(image, header, l1_table, reftable, &mut windows, 0, flag)?;
     while first < end {

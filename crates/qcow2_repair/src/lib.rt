@@ -8,7 +8,6 @@ mod flags;
 pub mod laws;
 mod refusals;
 mod repair;
-mod tables;
 
 pub use file_end::refuse_tables_past_end;
 pub use refusals::refuse_unrepairable;

@@ -4,11 +4,10 @@
 ghost use Rattle.std.specs.Prelude.{◌≡◌, ◌⊎◌, ◌≤◌, IfErr, IfOk, MatchResult, None, Ok, Some};
 ghost use Rattle.qcow2_base.specs.Storage.{OnImage};
 ghost use Rattle.qcow2_base.specs.declared.fault.Fault.TheVariants.{CounterRange, Overlap};
-ghost use Rattle.qcow2_metadata.specs.Header.{geometry_of};
 ghost use Rattle.qcow2_metadata.specs.Refblock.{greatest_counter};
 ghost use Rattle.qcow2_metadata.specs.Results.{Reads, unless_refused};
-ghost use Rattle.qcow2_check.specs.Counters.{blocks_fault};
 ghost use Rattle.qcow2_check.specs.Findings.{IsFindingsOf, MovesFindings, findings_left};
+ghost use Rattle.qcow2_check.specs.ImageTables.{IsPlacedReftable};
 ghost use Rattle.qcow2_check.specs.Uses.{image_tables};
 ghost use Rattle.qcow2_repair.specs.Repair.{IsRepairable};
 ghost use Rattle.qcow2_repair.specs.Refusals.{IsFindingRefusal, IsRepairRefusal, findings_refusal, header_refusal, refusal_of, repairable_tables, unrefused_tables};
@@ -69,9 +68,7 @@ fn unrefused_tables<S: Storage>(
 ) -> Result<(L1Table, RefTable), Fault>
     ensures reads { Reads (λ found. image_tables header.now found.0.numbers found.1.numbers) result
         (unrefused_tables header.now) (IsRepairRefusal header.now) (S.state image.old) (S.state image.new) }
-    ensures tables { IfOk result (λ found. (found.0.geometry ≡ geometry_of header.now)
-        × (found.1.geometry ≡ geometry_of header.now)
-        × (blocks_fault header.now found.1.numbers ≡ None)) }
+    ensures reftable { IfOk result (λ found. IsPlacedReftable header.now found.1) }
     ensures repairable { IfOk result (λ found. OnImage (S.state image.old)
         (IsRepairable (image_tables header.now found.0.numbers found.1.numbers))) }
 {
@@ -105,9 +102,7 @@ pub(crate) fn repairable_tables<S: Storage>(
 ) -> Result<(L1Table, RefTable), Fault>
     ensures reads { Reads (λ found. image_tables header.now found.0.numbers found.1.numbers) result
         (repairable_tables header.now) (IsRepairRefusal header.now) (S.state image.old) (S.state image.new) }
-    ensures tables { IfOk result (λ found. (found.0.geometry ≡ geometry_of header.now)
-        × (found.1.geometry ≡ geometry_of header.now)
-        × (blocks_fault header.now found.1.numbers ≡ None)) }
+    ensures reftable { IfOk result (λ found. IsPlacedReftable header.now found.1) }
     ensures repairable { IfOk result (λ found. OnImage (S.state image.old)
         (IsRepairable (image_tables header.now found.0.numbers found.1.numbers))) }
 {

@@ -2,11 +2,10 @@
 
 ghost use Rattle.std.specs.Prelude.{◌≡◌, ◌⊎◌, Err, IfErr, IfOk, MatchResult, None, Ok, OnOk, true};
 ghost use Rattle.qcow2_base.specs.Storage.{Image, OnImage, OnImages};
-ghost use Rattle.qcow2_metadata.specs.Header.{geometry_of};
 ghost use Rattle.qcow2_metadata.specs.Header.Open.{header_after_load};
 ghost use Rattle.qcow2_metadata.specs.Placed.{place_fault};
 ghost use Rattle.qcow2_metadata.specs.Results.{IsFromOutside};
-ghost use Rattle.qcow2_check.specs.Counters.{blocks_fault};
+ghost use Rattle.qcow2_check.specs.ImageTables.{IsPlacedReftable};
 ghost use Rattle.qcow2_check.specs.NamedTables.{l1_cluster, l1_layout, loaded_l1_table};
 ghost use Rattle.qcow2_repair.specs.Repair.{BreaksOffCounters, BreaksOffRepair, IsPassFault, IsRepairFault, IsRepairable, Lowers, Raises, Repairs, RepairsImage, tables_in};
 ghost use Rattle.qcow2_check.specs.Failures.{ReportsFailures};
@@ -16,9 +15,8 @@ ghost use Rattle.qcow2_repair.specs.Refusals.{repairable_tables};
 use crate::counters::{CounterPass, pass_all_counters};
 use crate::flag_windows::pass_all_flags;
 use crate::refusals::repairable_tables;
-use crate::tables::Tables;
 use qcow2_base::{Device, Fault};
-use qcow2_check::load_l1_table;
+use qcow2_check::{ImageTables, load_l1_table};
 use qcow2_metadata::{Header, L1Table, RefTable};
 use std::alloc::Global;
 
@@ -59,8 +57,7 @@ fn repair_written<S: Device>(
     header: &Header,
     reftable: &RefTable,
 ) -> Result<(), Fault>
-    requires reftable { (reftable.now.geometry ≡ geometry_of header.now)
-        × (blocks_fault header.now reftable.now.numbers ≡ None) }
+    requires reftable { IsPlacedReftable header.now reftable.now }
     requires loads { OnImage (S.state image.old) (λ bytes.
         loaded_l1_table header.now bytes ≡ Ok (l1_in header.now bytes)) }
     requires repairable { OnImage (S.state image.old) (λ bytes.
@@ -84,8 +81,7 @@ fn repair_tables<S: Device>(
     l1_table: &mut L1Table,
     reftable: &RefTable,
 ) -> Result<(), Fault>
-    requires reftable { (reftable.now.geometry ≡ geometry_of header.now)
-        × (blocks_fault header.now reftable.now.numbers ≡ None) }
+    requires reftable { IsPlacedReftable header.now reftable.now }
     requires placed { place_fault (l1_layout header.now) (l1_cluster header.now) ≡ None }
     requires l1_table { IsL1TableOf header.now (S.state image.old) l1_table.old }
     requires repairable { OnImage (S.state image.old) (λ bytes.
@@ -103,14 +99,15 @@ fn repair_tables<S: Device>(
 }
 
 // Raises the counters of an image with these tables, and then lowers them.
+#[tactic(auto, using(crate::proofs::FlagWindowsLemmas::l1_fits))]
 fn pass_both_counters<S: Device>(
     image: &mut S,
     header: &Header,
     l1_table: &L1Table,
     reftable: &RefTable,
 ) -> Result<(), Fault>
-    requires reftable { (reftable.now.geometry ≡ geometry_of header.now)
-        × (blocks_fault header.now reftable.now.numbers ≡ None) }
+    requires reftable { IsPlacedReftable header.now reftable.now }
+    requires placed { place_fault (l1_layout header.now) (l1_cluster header.now) ≡ None }
     requires l1_table { IsL1TableOf header.now (S.state image.old) l1_table.now }
     requires repairable { OnImage (S.state image.old) (λ bytes.
         IsRepairable (tables_in header.now reftable.now.numbers bytes) bytes) }
@@ -124,7 +121,7 @@ fn pass_both_counters<S: Device>(
     ensures fault { IfErr result (IsRepairFault (S.state image.old)) }
     ensures storage { ReportsFailures result (S.state image.old) (S.state image.new) }
 {
-    let tables = Tables {
+    let tables = ImageTables {
         header,
         l1_table,
         reftable,

@@ -14,11 +14,11 @@ use Rattle.qcow2_check.specs.Findings.{AreRight, is_shared, uses_of_kind}
 use Rattle.qcow2_check.specs.NamedTables.{l1_cluster, named_cluster}
 use Rattle.qcow2_check.specs.Tally.{ClusterUse, used_clusters}
 use Rattle.qcow2_check.specs.Uses.{ImageTables, block_uses, entry_uses, header_uses, image_uses, l1_entry_uses, table_uses, uses_of}
-use Rattle.qcow2_check.specs.declared.tally.UseKind.{UseKind}
-use Rattle.qcow2_check.specs.declared.tally.UseKind.TheVariants.{Fixed, Guest, L2Table}
+use Rattle.qcow2_check.specs.declared.tally.TallyKind.{TallyKind}
+use Rattle.qcow2_check.specs.declared.tally.TallyKind.TheVariants.{Fixed, Guest, L2Table}
 
 -- uses of a cluster in one list and in another
-pub kind-append : (kind : UseKind) (one other : List ClusterUse) (c : ℕ)
+pub kind-append : (kind : TallyKind) (one other : List ClusterUse) (c : ℕ)
     → uses_of_kind kind (one ++ other) c ≡ uses_of_kind kind one c + uses_of_kind kind other c
 kind-append kind one other c = sum_by-append _ one other
 

@@ -17,8 +17,8 @@ use Rattle.qcow2_summary.specs.ImageEnd.{end_of, findings_end, image_end, is_cou
 use Rattle.qcow2_check.specs.Tally.{ClusterUse, mark_of}
 use Rattle.qcow2_check.specs.Uses.{ImageTables, image_uses, uses_of}
 use Rattle.qcow2_check.specs.declared.findings.Finding.{Finding}
-use Rattle.qcow2_check.specs.declared.tally.UseKind.{UseKind}
-use Rattle.qcow2_check.specs.declared.tally.UseKind.TheVariants.{Fixed, L2Table}
+use Rattle.qcow2_check.specs.declared.tally.TallyKind.{TallyKind}
+use Rattle.qcow2_check.specs.declared.tally.TallyKind.TheVariants.{Fixed, L2Table}
 
 -- a number is the one after the last below a limit that a test holds of, or 0
 pub record IsEnd (test : ℕ → Bool) (limit end : ℕ) : Type 0 where
@@ -74,7 +74,7 @@ end_of-is test (suc n) = by_test (test n) refl (end_of-is test n)
     })
 
 -- of a cluster's uses those of one kind are some
-kind-within : (kind : UseKind) (uses : List ClusterUse) (c : ℕ) → uses_of_kind kind uses c ≤ uses_of uses c
+kind-within : (kind : TallyKind) (uses : List ClusterUse) (c : ℕ) → uses_of_kind kind uses c ≤ uses_of uses c
 kind-within kind [] c = omega arith
 kind-within kind (used ∷ uses) c =
     let rest = kind-within kind uses c in

@@ -7,7 +7,7 @@ ghost use Rattle.qcow2_base.specs.Storage.{Image};
 ghost use Rattle.qcow2_check.specs.Counters.{counter_of};
 ghost use Rattle.qcow2_check.specs.Findings.{AreRight, image_findings, uses_of_kind};
 ghost use Rattle.qcow2_check.specs.Uses.{ImageTables, image_uses, uses_of};
-ghost use Rattle.qcow2_check.specs.declared.tally.UseKind.TheVariants.{Fixed, Guest, L2Table};
+ghost use Rattle.qcow2_check.specs.declared.tally.TallyKind.TheVariants.{Fixed, Guest, L2Table};
 
 /// Nothing is found of an image exactly where nothing is wrong with any of its clusters.
 pub fn nothing_is_found_just_where_all_is_right()

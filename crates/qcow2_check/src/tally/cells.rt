@@ -4,7 +4,7 @@ ghost use Rattle.std.specs.Prelude.{◌≡◌, ◌↔◌, ℕ, ◌+◌, ◌<◌,
 ghost use Rattle.qcow2_check.specs.Tally.{IsPlain, with_use};
 ghost use Rattle.qcow2_check.specs.Tally.Cells.{kept_cells};
 
-use super::{UseKind, with_use_if};
+use super::{TallyKind, with_use_if};
 use std::alloc::{AllocError, Global};
 
 // Whether a cell counts as many uses as the counter says, all of them by guest data.
@@ -82,7 +82,7 @@ impl Cells {
     // Counts a use in a cell if the cluster is used. Returns whether there is the cell and its number fits;
     // else nothing changes.
     #[inline(always)]
-    pub(super) fn add_if(&mut self, index: usize, kind: UseKind, is_used: bool) -> bool
+    pub(super) fn add_if(&mut self, index: usize, kind: TallyKind, is_used: bool) -> bool
         ensures counted { IsTrue result → IsTrue is_used → (index < length (kept_cells self.old))
             × (kept_cells self.new ≡ slice_set (kept_cells self.old) index
             (with_use kind (slice_index (kept_cells self.old) index))) }

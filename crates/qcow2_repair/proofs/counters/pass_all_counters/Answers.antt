@@ -10,14 +10,14 @@ returns-in_err-cluster-clause-passed g c = λ told.
     let known : IsTrue (g.S.Storage.state c.loop-cluster.image).tells = search rules in
     let broken = c.in_err-cluster.ensures.passed known in
     rw (exit.1, exit.2) (breaks-later c.args.tables.now c.args.pass c.loop-cluster.cluster c.in_err-cluster.field-0.0 (g.S.Storage.state c.args.image.now).byte_at
-    (g.S.Storage.state c.loop-cluster.image).byte_at (g.S.Storage.state c.pass_from.new.image).byte_at (c.requires told) (c.loop-cluster.invariant.passed told) broken)
+    (g.S.Storage.state c.loop-cluster.image).byte_at (g.S.Storage.state c.pass_from.new.image).byte_at (c.requires.repairable told) (c.loop-cluster.invariant.passed told) broken)
 
 pub loop-cluster-preserved : goal.loop-cluster-preserved
 loop-cluster-preserved g c = record {
   passed = λ told.
       let known : IsTrue (g.S.Storage.state c.loop-cluster.image).tells = search rules in
       between-more c.args.tables.now c.args.pass 0 c.loop-cluster.cluster c.in_ok-cluster.cluster (g.S.Storage.state c.args.image.now).byte_at
-      (g.S.Storage.state c.loop-cluster.image).byte_at (g.S.Storage.state c.pass_from.new.image).byte_at (omega arith) (search rules) (c.requires told)
+      (g.S.Storage.state c.loop-cluster.image).byte_at (g.S.Storage.state c.pass_from.new.image).byte_at (omega arith) (search rules) (c.requires.repairable told)
       (c.loop-cluster.invariant.passed told) (c.in_ok-cluster.ensures.passed known);
   kept = search rules;
   repairable = λ told.

@@ -7,8 +7,8 @@ use Rattle.qcow2_repair.specs.Repair.{IsRepairable}
 use Rattle.qcow2_repair.specs.Flags.{l1_in}
 use Rattle.qcow2_repair.proofs.repair.pass_both_counters.Goals as goal
 
-pub pass_all_counters-requires-2 : goal.pass_all_counters-requires-2
-pass_all_counters-requires-2 g c = λ told.
+pub pass_all_counters-requires-2-clause-repairable : goal.pass_all_counters-requires-2-clause-repairable
+pass_all_counters-requires-2-clause-repairable g c = λ told.
     let start : IsTrue (g.S.Storage.state c.args.image.now).tells = search rules in
     let tables : ImageTables = image_tables c.args.header.now c.args.l1_table.now.numbers c.args.reftable.now.numbers in
     let is : IsRepairable tables (g.S.Storage.state c.args.image.now).byte_at = rw (c.requires.l1_table.numbers start) (c.requires.repairable start) in

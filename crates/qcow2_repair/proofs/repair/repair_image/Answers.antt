@@ -10,10 +10,11 @@ use Rattle.qcow2_repair.proofs.repair.repair_image.Goals as goal
 
 pub repair_written-requires-clause-reftable : goal.repair_written-requires-clause-reftable
 repair_written-requires-clause-reftable g c =
-    let says : SaysSame c.args.header c.in_ok-header.header = writable-same c.args.header c.in_ok-header.header c.in_ok-header.ensures.writable.exact in (
-      c.in_ok-reftable.ensures.tables.1 ∙ sym (geometry-said c.args.header c.in_ok-header.header says),
-      blocks-said c.args.header c.in_ok-header.header c.in_ok-reftable.reftable.numbers says ∙ c.in_ok-reftable.ensures.tables.2,
-    )
+    let says : SaysSame c.args.header c.in_ok-header.header = writable-same c.args.header c.in_ok-header.header c.in_ok-header.ensures.writable.exact in record {
+      geometry = c.in_ok-reftable.ensures.reftable.geometry ∙ sym (geometry-said c.args.header c.in_ok-header.header says);
+      entries = c.in_ok-reftable.ensures.reftable.entries;
+      placed = blocks-said c.args.header c.in_ok-header.header c.in_ok-reftable.reftable.numbers says ∙ c.in_ok-reftable.ensures.reftable.placed;
+    }
 
 pub repair_written-requires-clause-loads : goal.repair_written-requires-clause-loads
 repair_written-requires-clause-loads g c = λ told.

@@ -1,8 +1,7 @@
 use Rattle.qcow2_check.proofs.FindingsLemmas.{counts_all}
-use Rattle.qcow2_check.specs.Uses.{image_tables}
 use Rattle.qcow2_check.proofs.windows.Windows.count.Goals as goal
 
 pub returns-clause-counted : goal.returns-clause-counted
 returns-clause-counted g c = λ told.
-    counts_all (image_tables c.args.header.now c.args.l1_table.now.numbers c.args.reftable.now.numbers) (g.S.Storage.state c.args.image.now).byte_at
+    counts_all c.args.tables.now (g.S.Storage.state c.args.image.now).byte_at
     c.in_ok-tally.tally c.count_image.new.tally c.in_ok-tally.ensures.begun.3 (c.in_ok-count_image.ensures.counted told)

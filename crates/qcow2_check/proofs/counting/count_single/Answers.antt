@@ -1,5 +1,5 @@
 use Rattle.qcow2_check.proofs.UsesLemmas.{single_counted}
-use Rattle.qcow2_check.proofs.uses.count_single.Goals as goal
+use Rattle.qcow2_check.proofs.counting.count_single.Goals as goal
 
 pub returns-clause-counted : goal.returns-clause-counted
 returns-clause-counted c = λ counted.

@@ -1,7 +1,7 @@
 use Rattle.std.proofs.Common.{◌-◌, ◌≤◌, [], ◌∷◌}
 use Rattle.qcow2_check.specs.Tally.{CountsMore}
 use Rattle.qcow2_check.specs.Tally.{used_clusters}
-use Rattle.qcow2_check.proofs.uses.count_clusters.Given as goal
+use Rattle.qcow2_check.proofs.counting.count_clusters.Given as goal
 
 -- the clusters before this one are counted
 abbrev pub invariant-loop-cluster : goal.invariant-loop-cluster

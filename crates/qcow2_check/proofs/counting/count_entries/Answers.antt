@@ -1,7 +1,7 @@
 use Rattle.std.proofs.Common.{◌≡◌, ◌+◌, ◌≤◌, false, length, refl, rules, arith}
 use Rattle.qcow2_check.proofs.UsesLemmas.{unallocated_more, unallocated_uses}
 use Rattle.qcow2_check.specs.Uses.{entry_uses}
-use Rattle.qcow2_check.proofs.uses.count_entries.Goals as goal
+use Rattle.qcow2_check.proofs.counting.count_entries.Goals as goal
 
 pub loop-index-preserved-then-are_unallocated : goal.loop-index-preserved-then-are_unallocated
 loop-index-preserved-then-are_unallocated c =

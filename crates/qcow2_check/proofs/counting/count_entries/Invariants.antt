@@ -1,7 +1,7 @@
 use Rattle.std.proofs.Common.{◌-◌, ◌≤◌, flat_map, length, take}
 use Rattle.qcow2_check.specs.Tally.{CountsMore}
 use Rattle.qcow2_check.specs.Uses.{entry_uses}
-use Rattle.qcow2_check.proofs.uses.count_entries.Given as goal
+use Rattle.qcow2_check.proofs.counting.count_entries.Given as goal
 
 -- what the entries before this one refer to is counted
 abbrev pub invariant-loop-index : goal.invariant-loop-index

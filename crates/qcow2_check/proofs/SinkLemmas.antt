@@ -1,0 +1,119 @@
+use Rattle.std.proofs.Common.{◌≡◌, ℕ, ◌+◌, ◌<◌, List, [], ◌∷◌, ◌++◌, take, length, slice_index, Result, Ok, Err, OnOk, add-zero, refl, subst, sym, ◌∙◌, ap, arith}
+use Rattle.std.proofs.Math.Nat.{zero-add}
+use Rattle.std.proofs.lemmas.List.{append-nil, append_assoc, length-take-le}
+use Rattle.qcow2_base.specs.Storage.{Image, OnImage, OnlyReads, StorageState}
+use Rattle.qcow2_base.specs.declared.fault.Fault.{Fault}
+use Rattle.qcow2_metadata.specs.Header.{Geometry}
+use Rattle.qcow2_metadata.specs.Results.{Reads}
+use Rattle.qcow2_metadata.specs.Placed.{IsLoaded, numbers_at}
+use Rattle.qcow2_metadata.specs.Table.{IsEntryFault, TableState, l2_layout}
+use Rattle.qcow2_base.specs.declared.types.HostCluster.{HostCluster}
+use Rattle.qcow2_check.proofs.UsesLemmas.{all_load_more, all_load_until, loaded, take_more}
+use Rattle.qcow2_check.specs.Uses.{all_load, l1_entry_loads}
+use Rattle.qcow2_check.specs.Walk.{Took, entries_list, l1_list, list_from}
+use Rattle.qcow2_check.specs.declared.uses.Use.{Use}
+
+-- the uses by numbers and by one more
+list_append : (uses : ℕ → ℕ → List Use) (place : ℕ) (vs : List ℕ) (v : ℕ)
+    → list_from uses place (vs ++ v ∷ []) ≡ list_from uses place vs ++ uses (place + length vs) v
+list_append uses place [] v = append-nil (uses place v) ∙ ap (λ n. uses n v) (sym (add-zero place))
+list_append uses place (w ∷ vs) v =
+    let more : place + 1 + length vs ≡ place + length (w ∷ vs) = omega arith in
+    ap (λ us. uses place w ++ us) (list_append uses (place + 1) vs v ∙ ap (λ n. list_from uses (place + 1) vs ++ uses n v) more)
+    ∙ sym (append_assoc (uses place w) (list_from uses (place + 1) vs) (uses (place + length (w ∷ vs)) v))
+
+-- the uses by the first numbers and by the next
+pub list_next : (uses : ℕ → ℕ → List Use) (place : ℕ) (vs : List ℕ) (i : ℕ) → i < length vs
+    → list_from uses place (take (i + 1) vs) ≡ list_from uses place (take i vs) ++ uses (place + i) (slice_index vs i)
+list_next uses place vs i below =
+    ap (λ xs. list_from uses place xs) (take_more vs i 0 below) ∙ list_append uses place (take i vs) (slice_index vs i)
+    ∙ ap (λ n. list_from uses place (take i vs) ++ uses (place + n) (slice_index vs i)) (length-take-le i vs (omega (arith, below)))
+
+-- the L2 tables that the first L1 entries name are loaded, and they and what they refer to are taken
+pub record AreWalked {Sink : Type 0} (takes : List Use → Sink → Sink → Type 0) (g : Geometry) (l1 : List ℕ) (index : ℕ) (old new : StorageState) (before after : Sink) : Type 0 where
+  pub loads : OnImage old (λ bytes. all_load g (take index l1) bytes ≡ loaded)
+  pub taken : Took takes old (λ bytes. list_from (l1_list g bytes) 0 (take index l1)) before after
+  pub storage : OnlyReads loaded old new
+
+-- a sink, as its trait says it
+module _ {Sink : Type 0} (takes : List Use → Sink → Sink → Type 0)
+    (both : (first second : List Use) (a b c : Sink) → takes first a b → takes second b c → takes (first ++ second) a c) where
+  -- what one number uses, taken after what those before it do
+  pub takes_next : (uses : ℕ → ℕ → List Use) (place : ℕ) (vs : List ℕ) (i : ℕ) (a b c : Sink) → i < length vs
+      → takes (list_from uses place (take i vs)) a b → takes (uses (place + i) (slice_index vs i)) b c
+      → takes (list_from uses place (take (i + 1) vs)) a c
+  takes_next uses place vs i a b c below one other =
+      rw (list_next uses place vs i below) (both (list_from uses place (take i vs)) (uses (place + i) (slice_index vs i)) a b c one other)
+
+  -- uses that are taken after others, where both are known of the same bytes
+  pub took_both : (image : StorageState) (first second : Image → List Use) (a b c : Sink)
+      → Took takes image first a b → Took takes image second b c → Took takes image (λ bytes. first bytes ++ second bytes) a c
+  took_both image first second a b c one other = record {
+    uses = one.uses ++ other.uses;
+    taken = both one.uses other.uses a b c one.taken other.taken;
+    known = λ told. rw (one.known told, other.known told) refl;
+  }
+
+  -- uses that are taken before those of L2 tables
+  pub took_after : (answer : Result (Unit {0}) Fault) (image : StorageState) (first : List Use) (second : Image → List Use) (a b c : Sink)
+      → takes first a b → OnOk answer (Took takes image second b c) → OnOk answer (Took takes image (λ bytes. first ++ second bytes) a c)
+  took_after (Ok done) image first second a b c one other =
+      took_both image (λ bytes. first) second a b c (record { uses = first; taken = one; known = λ told. refl }) other
+  took_after (Err fault) image first second a b c one other = tt
+
+  -- what the entries of an L2 table refer to that was loaded
+  pub took_table : (answer : Result (Unit {0}) Fault) (image : StorageState) (g : Geometry) (index : ℕ) (cluster : HostCluster) (table : TableState) (a b : Sink)
+      → IsLoaded (l2_layout g) g cluster image table
+      → OnOk answer (takes (entries_list table.geometry index table.numbers) a b)
+      → OnOk answer (Took takes image (λ bytes. entries_list g index (numbers_at (l2_layout g) cluster bytes)) a b)
+  took_table (Ok done) image g index cluster table a b is_loaded entries = record {
+    uses = entries_list g index table.numbers;
+    taken = rw is_loaded.geometry at entries;
+    known = λ told. rw (is_loaded.numbers told) refl;
+  }
+  took_table (Err fault) image g index cluster table a b is_loaded entries = tt
+
+  -- uses that are taken after others
+  pub takes_after : (answer : Result (Unit {0}) Fault) (first second : List Use) (a b c : Sink)
+      → takes first a b → OnOk answer (takes second b c) → OnOk answer (takes (first ++ second) a c)
+  takes_after (Ok done) first second a b c one other = both first second a b c one other
+  takes_after (Err fault) first second a b c one other = tt
+
+  -- the L2 table of one L1 entry more
+  pub walked_more : (g : Geometry) (l1 : List ℕ) (index : ℕ) (old mid new : StorageState) (a b c : Sink)
+      (answer : Result (Unit {0}) Fault) → index < length l1 → answer ≡ loaded
+      → AreWalked takes g l1 index old mid a b
+      → Reads (λ done. done) answer (λ bytes. l1_entry_loads g bytes (slice_index l1 index)) IsEntryFault mid new
+      → OnOk answer (Took takes mid (λ bytes. l1_list g bytes index (slice_index l1 index)) b c)
+      → AreWalked takes g l1 (index + 1) old new a c
+  walked_more g l1 index old mid new a b c answer below is so_far reads more =
+      let next : take (index + 1) l1 ≡ take index l1 ++ slice_index l1 index ∷ [] = take_more l1 index 0 below in
+      let here : Took takes mid (λ bytes. l1_list g bytes index (slice_index l1 index)) b c =
+      subst (λ (r : Result (Unit {0}) Fault). OnOk r (Took takes mid (λ bytes. l1_list g bytes index (slice_index l1 index)) b c)) is more in
+      record {
+        loads = λ told.
+            let loads : l1_entry_loads g old.byte_at (slice_index l1 index) ≡ loaded = grind (arith, is, so_far.storage, reads.exact, told) in
+            rw (next, all_load_more g old.byte_at (take index l1) (slice_index l1 index), so_far.loads told) loads;
+        taken = record {
+          uses = so_far.taken.uses ++ here.uses;
+          taken = both so_far.taken.uses here.uses a b c so_far.taken.taken here.taken;
+          known = λ told.
+              let after : here.uses ≡ l1_list g mid.byte_at index (slice_index l1 index) = here.known (rw so_far.storage.device.tells told) in
+              let known : here.uses ≡ l1_list g old.byte_at index (slice_index l1 index) =
+              after ∙ ap (λ bytes. l1_list g bytes index (slice_index l1 index)) so_far.storage.bytes in
+              rw (list_next (l1_list g old.byte_at) 0 l1 index below, so_far.taken.known told, known, zero-add index) refl;
+        };
+        storage = grind (arith, is, so_far.storage, reads.storage);
+      }
+
+  -- or where it can't be loaded, all can't
+  pub refused_at : (g : Geometry) (l1 : List ℕ) (index : ℕ) (old mid new : StorageState) (a b : Sink)
+      (answer : Result (Unit {0}) Fault) (fault : Fault) → index < length l1 → answer ≡ Err fault
+      → AreWalked takes g l1 index old mid a b
+      → Reads (λ done. done) answer (λ bytes. l1_entry_loads g bytes (slice_index l1 index)) IsEntryFault mid new
+      → Reads (λ done. done) answer (all_load g l1) IsEntryFault old new
+  refused_at g l1 index old mid new a b answer fault below is so_far reads = record {
+    exact = λ told. grind (arith, is, so_far.storage, reads.exact, told, all_load_until g old.byte_at l1 index fault below (so_far.loads told));
+    faults = reads.faults;
+    storage = grind (arith, is, so_far.storage, reads.storage);
+  }

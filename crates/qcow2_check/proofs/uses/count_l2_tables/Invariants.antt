@@ -1,7 +1,0 @@
-use Rattle.qcow2_check.proofs.UsesLemmas.{AreCounted}
-use Rattle.qcow2_check.proofs.uses.count_l2_tables.Given as goal
-
--- the L2 tables that the entries before this one name are loaded and counted
-abbrev pub invariant-loop-index : goal.invariant-loop-index
-invariant-loop-index g l = AreCounted l.l1_table.geometry l.l1_table.numbers l.index
-    (g.S.Storage.state l.fn.image) (g.S.Storage.state l.image) l.fn.tally l.tally

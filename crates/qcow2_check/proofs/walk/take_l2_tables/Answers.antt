@@ -1,0 +1,12 @@
+use Rattle.std.proofs.Common.{rules}
+use Rattle.std.proofs.Math.Nat.{zero-add}
+use Rattle.qcow2_check.proofs.SinkLemmas.{takes_next}
+use Rattle.qcow2_check.specs.Walk.{table_list}
+use Rattle.qcow2_check.proofs.walk.take_l2_tables.Goals as goal
+
+pub loop-index-preserved : goal.loop-index-preserved
+loop-index-preserved g c =
+    let table = c.args.l1_table.now in
+    takes_next g.U.UseSink.takes g.met.U.UseSink.takes_both (table_list table.geometry.cluster_bits) 0 table.numbers c.loop-index.index
+    c.args.sink.now c.loop-index.sink c.take_l2_table.new.sink (search rules) c.loop-index.invariant
+    (rw (zero-add c.loop-index.index) c.in_ok-take_l2_table.ensures.taken)

@@ -1,0 +1,97 @@
+-- What does an image use, in which order, and what refers to it?
+use Rattle.std.specs.Prelude.{◌≡◌, ℕ, ◌+◌, ◌*◌, ◌^◌, ◌<◌, List, [], ◌∷◌, ◌++◌, if◌then◌else◌, option_map, option_to_list, Some, None}
+use Rattle.std.specs.Int.{div_ceil}
+use Rattle.qcow2_base.specs.Storage.{Image, OnImage, StorageState}
+use Rattle.qcow2_base.specs.declared.types.HostCluster.{HostCluster}
+use Rattle.qcow2_metadata.specs.Entries.L2Entry.{allocation, is_compressed}
+use Rattle.qcow2_metadata.specs.Header.{Geometry, HeaderRecord, geometry_of}
+use Rattle.qcow2_metadata.specs.Placed.{numbers_at}
+use Rattle.qcow2_metadata.specs.Table.{l2_entries, l2_layout}
+use Rattle.qcow2_check.specs.NamedTables.{l1_cluster, named_block, named_cluster, reftable_cluster}
+use Rattle.qcow2_check.specs.Tally.{ClusterUse}
+use Rattle.qcow2_check.specs.Uses.{ImageTables}
+use Rattle.qcow2_check.specs.declared.tally.TallyKind.{TallyKind}
+use Rattle.qcow2_check.specs.declared.tally.TallyKind.TheVariants as tally
+use Rattle.qcow2_check.specs.declared.uses.Use.{Use}
+use Rattle.qcow2_check.specs.declared.uses.UseKind.{UseKind}
+use Rattle.qcow2_check.specs.declared.uses.UseKind.TheVariants.{Compressed, Data, Header, L1Table, L2Table, RefcountBlock, RefcountTable}
+
+-- that many clusters from one on, used in this way by this owner
+abbrev pub used : UseKind → HostCluster → ℕ → ℕ → Use
+used kind first count owner = record { kind = kind; clusters = record { first = first; count = record { 0 = count } }; owner = owner }
+
+-- the header's cluster, the clusters that the L1 table's bytes are in, and those of the refcount table
+abbrev pub header_list : HeaderRecord → List Use
+header_list header = used Header (record { 0 = 0 }) 1 0
+    ∷ used L1Table (l1_cluster header) (div_ceil (8 * header.v2.l1_size) (2 ^ header.v2.cluster_bits)) 0
+    ∷ used RefcountTable (reftable_cluster header) header.v2.refcount_table_clusters 0 ∷ []
+
+-- the block that the refcount table entry at an index names
+abbrev pub block_list : ℕ → ℕ → ℕ → List Use
+block_list cb index v = option_to_list (option_map (λ cluster. used RefcountBlock cluster 1 index) (named_block cb v))
+
+-- what the L2 entry of a guest cluster refers to
+abbrev pub entry_kind : ℕ → UseKind
+entry_kind v = if is_compressed v then Compressed else Data
+
+abbrev pub entry_list : Geometry → ℕ → ℕ → List Use
+entry_list g guest v = if g.external_data_file then []
+    else option_to_list (option_map (λ clusters. record { kind = entry_kind v; clusters = clusters; owner = guest }) (allocation g v))
+
+-- the uses by numbers one after another, each by its place too, from a place on
+abbrev pub list_from : (ℕ → ℕ → List Use) → ℕ → List ℕ → List Use
+list_from uses place [] = []
+list_from uses place (v ∷ vs) = uses place v ++ list_from uses (place + 1) vs
+
+-- what the entries of the L2 table of the L1 entry at an index refer to
+abbrev pub entries_list : Geometry → ℕ → List ℕ → List Use
+entries_list g index numbers = list_from (entry_list g) (index * l2_entries g.cluster_bits) numbers
+
+-- the L2 table that the L1 entry at an index names
+abbrev pub table_list : ℕ → ℕ → ℕ → List Use
+table_list cb index v = option_to_list (option_map (λ cluster. used L2Table cluster 1 index) (named_cluster cb v))
+
+-- what the entries refer to of the L2 table that the L1 entry at an index names, if it names one
+abbrev pub l1_list : Geometry → Image → ℕ → ℕ → List Use
+l1_list g image index v = elim (named_cluster g.cluster_bits v) [
+  | None ↦ []
+  | Some cluster ↦ entries_list g index (numbers_at (l2_layout g) cluster image)
+]
+
+-- what tables use themselves, in order: the header's cluster, the L1 table, the refcount table, its blocks, and the L2 tables
+abbrev pub tables_list : ImageTables → List Use
+tables_list tables = header_list tables.header
+    ++ list_from (block_list tables.header.v2.cluster_bits) 0 tables.reftable
+    ++ list_from (table_list tables.header.v2.cluster_bits) 0 tables.l1
+
+-- what the guest's disk uses, in its order
+abbrev pub guest_list : ImageTables → Image → List Use
+guest_list tables image = list_from (l1_list (geometry_of tables.header) image) 0 tables.l1
+
+-- all that an image with these tables uses, in order
+abbrev pub walked : ImageTables → Image → List Use
+walked tables image = tables_list tables ++ guest_list tables image
+
+-- what a use may be owned by: the index of an entry of the L1 table or the refcount table, or a guest cluster
+abbrev pub IsOwned : Use → Type 0
+IsOwned one = one.owner < 2 ^ 40
+
+-- the kind that a tally counts it as
+abbrev pub tally_kind : UseKind → TallyKind
+tally_kind L2Table = tally.L2Table
+tally_kind Data = tally.Guest
+tally_kind Compressed = tally.Guest
+tally_kind Header = tally.Fixed
+tally_kind L1Table = tally.Fixed
+tally_kind RefcountTable = tally.Fixed
+tally_kind RefcountBlock = tally.Fixed
+
+-- a use as a tally counts it
+abbrev pub counted_use : Use → ClusterUse
+counted_use one = record { kind = tally_kind one.kind; clusters = one.clusters }
+
+-- a sink took some uses, by its own relation: these ones, where the storage's bytes are known
+pub record Took {Sink : Type 0} (takes : List Use → Sink → Sink → Type 0) (image : StorageState) (meaning : Image → List Use) (old new : Sink) : Type 0 where
+  pub uses : List Use
+  pub taken : takes uses old new
+  pub known : OnImage image (λ bytes. uses ≡ meaning bytes)

@@ -1,0 +1,227 @@
+//! A tally as a sink of the walk: it counts the uses of clusters that it takes.
+
+ghost use Rattle.std.specs.Prelude.{◌≡◌, ℕ, ◌+◌, ◌-◌, ◌*◌, ◌^◌, ◌<◌, ◌≤◌, [], ◌∷◌, false, is_some, IfSome, IsOkUnless, IsTrue, None, OnOk, flat_map, length, map, slice_index};
+ghost use Rattle.std.proofs.Common.{arith};
+ghost use Rattle.std.proofs.lemmas.Grind.{fold-append};
+ghost use Rattle.std.proofs.lemmas.List.{map-append};
+ghost use Rattle.qcow2_base.specs.Storage.{OnImage};
+ghost use Rattle.qcow2_base.specs.declared.fault.Fault.TheVariants.{NoMemory};
+ghost use Rattle.qcow2_metadata.specs.Entries.L2Entry.{allocation, l2_fault};
+ghost use Rattle.qcow2_base.specs.Types.{IsClusterBits};
+ghost use Rattle.qcow2_metadata.specs.Header.{geometry, geometry_of};
+ghost use Rattle.qcow2_metadata.specs.Results.{Reads};
+ghost use Rattle.qcow2_metadata.specs.Table.{IsEntryFault};
+ghost use Rattle.qcow2_check.specs.Tally.{CountsMore, used_clusters};
+ghost use Rattle.qcow2_check.specs.Uses.{all_load, entry_uses, image_uses};
+ghost use Rattle.qcow2_check.specs.Walk.{counted_use, tally_kind};
+
+use crate::image_tables::ImageTables;
+use crate::named_tables::named_cluster;
+use crate::tally::{Tally, TallyKind};
+use crate::use_sink::UseSink;
+use crate::uses::{Use, UseKind};
+use crate::walk::walk_uses;
+use qcow2_base::{ClusterCount, Fault, HostCluster, Storage, field};
+use qcow2_metadata::{L2Entry, L2Table, Table, TableEntry};
+
+// How many entries are looked at together.
+pub(crate) const TOGETHER: usize = 16;
+
+// Counts one use of each of that many clusters from one on.
+#[tactic(auto, using(crate::proofs::TallyLemmas::counts_next))]
+fn count_clusters(
+    tally: &mut Tally,
+    kind: TallyKind,
+    first: HostCluster,
+    count: u64,
+) -> Result<(), Fault>
+    ensures fault { IsOkUnless result NoMemory }
+    ensures counted { OnOk result (CountsMore (used_clusters kind first count ∷ []) tally.old tally.new) }
+{
+    let start = first.0.max(tally.first());
+    let end = first.0.saturating_add(count).min(tally.end());
+    for cluster in start..end.max(start) {
+        tally.add(cluster, kind)?;
+    }
+    Ok(())
+}
+
+// Counts the clusters that an L2 entry refers to.
+#[inline(never)]
+fn count_entry(tally: &mut Tally, entry: L2Entry, cluster_bits: u32) -> Result<(), Fault>
+    requires { IsClusterBits cluster_bits }
+    ensures fault { IsOkUnless result NoMemory }
+    ensures counted { OnOk result (CountsMore (entry_uses (geometry cluster_bits false) entry)
+        tally.old tally.new) }
+{
+    match entry.allocation(cluster_bits, false) {
+        Some((first, ClusterCount(1))) => tally.add(first.0, TallyKind::Guest),
+        Some((first, count)) => count_clusters(tally, TallyKind::Guest, first, count.0),
+        None => Ok(()),
+    }
+}
+
+// Whether an L2 entry refers to a cluster. Has no branch, since which entries do can't be guessed.
+#[inline(always)]
+fn refers(entry: L2Entry) -> bool
+    ensures { (cb : ℕ) → result ≡ is_some (allocation (geometry cb false) entry) }
+{
+    entry.is_compressed() | (field(entry.to_plain(), 9, 47) != 0)
+}
+
+// The first and the last cluster that an L2 entry refers to, if it refers to any. Has no branch either.
+#[inline(always)]
+#[tactic(auto, using(crate::proofs::UsesLemmas::compressed_ends, crate::proofs::UsesLemmas::standard_ends))]
+fn cluster_bounds(entry: L2Entry, cluster_bits: u32) -> (u64, u64)
+    requires bits { IsClusterBits cluster_bits }
+    requires valid { l2_fault cluster_bits entry ≡ None }
+    ensures { IfSome (allocation (geometry cluster_bits false) entry) (λ clusters.
+        (clusters.first.0 ≡ result.0) × (clusters.count.0 ≡ result.1 - result.0 + 1)) }
+{
+    let number = entry.to_plain();
+    let offset_bits = 70 - cluster_bits;
+    let standard = field(number, 9, 47);
+    let compressed = field(number, 9, offset_bits - 9);
+    let more = field(number, offset_bits, cluster_bits - 8);
+    // In sectors of 512 bytes.
+    let (first, last) = if entry.is_compressed() {
+        (compressed, compressed + more)
+    } else {
+        (standard, standard)
+    };
+    (first >> (cluster_bits - 9), last >> (cluster_bits - 9))
+}
+
+// Counts the cluster that an L2 entry refers to, unless it refers to several or its use can't be counted by
+// `try_add_if`. Returns whether it is counted; else nothing changes.
+#[inline(always)]
+fn count_single(tally: &mut Tally, entry: L2Entry, cluster_bits: u32) -> bool
+    requires bits { IsClusterBits cluster_bits }
+    requires valid { l2_fault cluster_bits entry ≡ None }
+    ensures counted { IsTrue result → CountsMore (entry_uses (geometry cluster_bits false) entry)
+        tally.old tally.new }
+    ensures same { result ≡ false → tally.new ≡ tally.old }
+{
+    let (first, last) = cluster_bounds(entry, cluster_bits);
+    if first != last {
+        return false;
+    }
+    tally.try_add_if(first, TallyKind::Guest, refers(entry))
+}
+
+/// The entry at an index of a table that has it. So the built program tests no index here.
+#[inline(always)]
+pub(crate) fn entry_at(table: &L2Table, index: usize) -> L2Entry
+    requires { index < length table.now.numbers }
+    ensures number { result ≡ slice_index table.now.numbers index }
+    ensures valid { l2_fault table.now.geometry.cluster_bits result ≡ None }
+{
+    table.get_ref(index).unwrap().get()
+}
+
+/// Whether the entries from an index on, as many as are looked at together, are all the entry 0.
+#[inline(always)]
+pub(crate) fn are_unallocated(table: &L2Table, first: usize) -> bool
+    requires { first + 16 ≤ length table.now.numbers }
+    ensures { IsTrue result → (k : ℕ) → k < 16 → slice_index table.now.numbers (first + k) ≡ 0 }
+{
+    prove!(first < table.entries());
+    let mut unallocated = true;
+    for k in 0..TOGETHER {
+        unallocated &= entry_at(table, first + k).to_plain() == 0;
+    }
+    unallocated
+}
+
+// Counts the clusters that the entries of an L2 table refer to.
+#[tactic(auto, using(crate::proofs::UsesLemmas::no_entry_uses, crate::proofs::UsesLemmas::counts_entry))]
+fn count_entries(tally: &mut Tally, table: &L2Table) -> Result<(), Fault>
+    ensures fault { IsOkUnless result NoMemory }
+    ensures counted { OnOk result (CountsMore (flat_map (entry_uses table.now.geometry) table.now.numbers)
+        tally.old tally.new) }
+{
+    if table.external_data_file() {
+        return Ok(());
+    }
+    let (cluster_bits, entries) = (table.cluster_bits(), table.entries());
+    let mut index = 0;
+    while index < entries {
+        if index % TOGETHER == 0 && entries - index >= TOGETHER && are_unallocated(table, index) {
+            index += TOGETHER;
+        } else {
+            let entry = entry_at(table, index);
+            if !count_single(tally, entry, cluster_bits) {
+                count_entry(tally, entry, cluster_bits)?;
+            }
+            index += 1;
+        }
+    }
+    Ok(())
+}
+
+impl UseKind {
+    // The kind that a tally counts it as.
+    #[inline(always)]
+    fn tally_kind(self) -> TallyKind
+        ensures { result ≡ tally_kind self }
+    {
+        match self {
+            UseKind::L2Table => TallyKind::L2Table,
+            UseKind::Data => TallyKind::Guest,
+            UseKind::Compressed => TallyKind::Guest,
+            UseKind::Header => TallyKind::Fixed,
+            UseKind::L1Table => TallyKind::Fixed,
+            UseKind::RefcountTable => TallyKind::Fixed,
+            UseKind::RefcountBlock => TallyKind::Fixed,
+        }
+    }
+}
+
+impl UseSink for Tally {
+    ghost takes = { λ uses old new. CountsMore (map counted_use uses) old new };
+
+    fn take(&mut self, used: Use) -> Result<(), Fault> {
+        let (kind, clusters) = (used.kind.tally_kind(), used.clusters);
+        count_clusters(self, kind, clusters.first, clusters.count.0)
+    }
+
+    #[tactic(auto, using(crate::proofs::CountingLemmas::counted_entries))]
+    fn take_table(&mut self, table: &L2Table, l1_index: usize) -> Result<(), Fault> {
+        count_entries(self, table)
+    }
+
+    ghost takes_none = { λ s. Prim.grind arith };
+
+    ghost takes_both = { λ first second a b c one other. Prim.grind (arith, one, other, map-append, fold-append) };
+}
+
+/// How many uses an image has of one cluster at most: one for each entry of the L2 tables that are named,
+/// of these themselves, and of the refcount table, and three of its header.
+pub(crate) fn most_uses(tables: &ImageTables<'_>) -> u64 {
+    let l1_table = tables.l1_table;
+    let mut named = 0u64;
+    for index in 0..l1_table.entries() {
+        named = named.saturating_add(u64::from(named_cluster(l1_table, index).is_some()));
+    }
+    let each = tables.header.l2_entries() as u64;
+    let entries = named.saturating_mul(each.saturating_add(1));
+    entries
+        .saturating_add(tables.reftable.entries() as u64)
+        .saturating_add(3)
+}
+
+/// Counts all clusters that an image uses.
+#[tactic(auto, using(crate::proofs::CountingLemmas::first_kept))]
+pub(crate) fn count_image<S: Storage>(
+    tally: &mut Tally,
+    image: &mut S,
+    tables: &ImageTables<'_>,
+) -> Result<(), Fault>
+    ensures reads { Reads (λ done. done) result (all_load (geometry_of tables.now.header) tables.now.l1)
+        IsEntryFault (S.state image.old) (S.state image.new) }
+    ensures counted { OnOk result (OnImage (S.state image.old) (λ bytes.
+        CountsMore (image_uses tables.now bytes) tally.old tally.new)) }
+    ensures first { OnOk result (tally.new.first ≡ tally.old.first) }
+{
+    walk_uses(tables, image, tally)
+}
