@@ -1,3 +1,4 @@
+pub mod FaultLemmas
 pub mod OnDiskStructLemmas
 pub mod StorageLemmas
 pub mod TypesLemmas

@@ -1,6 +1,6 @@
 //! Why a call refuses: one fault for each rule of the format or of a call, with a number and a kind.
 
-ghost use Rattle.std.specs.Prelude.{◌≡◌, ◌<◌, Some};
+ghost use Rattle.std.specs.Prelude.{◌≡◌, ◌<◌, Some, IfSome, IsSome};
 ghost use Rattle.qcow2_base.specs.declared.fault.Fault.TheVariants.{NoMemory};
 
 use std::alloc::{AllocError, AllocFailed};
@@ -188,7 +188,64 @@ pub enum FaultKind {
 }
 
 impl Fault {
-    ghost use Rattle.qcow2_base.specs.Fault.{fault_number, fault_kind};
+    ghost use Rattle.qcow2_base.specs.Fault.{fault_kind, fault_number, fault_of};
+
+    /// A fault of each number, in the order of numbers. Those that carry something carry 0 or the first value.
+    pub const ALL: [Fault; 41] = [
+        Fault::NotQcow2,
+        Fault::Version,
+        Fault::ClusterSize,
+        Fault::HeaderShort,
+        Fault::HeaderBig,
+        Fault::L1Unaligned,
+        Fault::ReftableUnaligned,
+        Fault::RefcountWidth,
+        Fault::BackingNameLong,
+        Fault::BackingNamePlace,
+        Fault::BackingNameText,
+        Fault::ExtensionsExceed,
+        Fault::ExtensionText,
+        Fault::FeatureNameCut,
+        Fault::FormatConflict,
+        Fault::DataFileConflict,
+        Fault::Incompatible(0),
+        Fault::EntryReserved,
+        Fault::EntryUnaligned,
+        Fault::TableTooBig,
+        Fault::TablePlace,
+        Fault::NoOffset,
+        Fault::NotPlaced,
+        Fault::HeaderTooLong,
+        Fault::NameTooLong,
+        Fault::FieldChanged(Field::Magic),
+        Fault::VersionNeeded,
+        Fault::CannotGrow,
+        Fault::TooMany,
+        Fault::CounterRange,
+        Fault::WrongLength,
+        Fault::BadEdit(0),
+        Fault::BadStep(0),
+        Fault::Storage,
+        Fault::NoMemory,
+        Fault::ExternalData,
+        Fault::Uncounted(UncountedPart::Snapshots),
+        Fault::Overlap,
+        Fault::InUse,
+        Fault::Shared(0),
+        Fault::L1Short,
+    ];
+
+    /// The fault of a number in `Fault::ALL`, if there is one.
+    pub fn of_number(number: u64) -> Option<Fault>
+        ensures listed { result ≡ fault_of number }
+        ensures named { IfSome result (λ fault. fault_number fault ≡ number) }
+        ensures each { (fault : Fault) → fault_number fault ≡ number → IsSome result }
+    {
+        if number == 0 {
+            return None;
+        }
+        Fault::ALL.get(number as usize - 1).copied()
+    }
 
     /// The fault's fixed number, from 1 to 41, which `qmeta` prints.
     pub fn number(&self) -> u32

@@ -20,6 +20,23 @@ fn each_fault_has_its_number_its_kind_and_its_message(rt: HostRuntime) -> Result
     each(rt.alloc(), FAULTS, check_reported)
 }
 
+// 41 is the largest number.
+#[test]
+fn a_number_names_a_fault_of_that_number() -> Result<(), Fail> {
+    for row in FAULTS {
+        let found = Fault::of_number(u64::from(row.number));
+        same(
+            found.map(|fault| fault.number()),
+            Some(row.number),
+            row.fault,
+        )?;
+    }
+    for number in [0, 42, u64::MAX] {
+        same(Fault::of_number(number), None, number)?;
+    }
+    Ok(())
+}
+
 const NAMES: &[(Field, &'static str)] = &[
     (Field::Magic, "magic"),
     (Field::Version, "version"),
