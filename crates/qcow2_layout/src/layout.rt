@@ -9,7 +9,7 @@ use crate::parts::{Part, Run};
 use crate::window::Window;
 use crate::windows::Windows;
 use qcow2_base::{ClusterCount, Fault, HostCluster, Storage};
-use qcow2_check::{Counters, load_l1_table};
+use qcow2_check::{Counters, ImageTables, load_l1_table};
 use qcow2_metadata::{Header, L1Table, Table};
 use qcow2_summary::most_clusters;
 use std::alloc::Global;
@@ -86,9 +86,13 @@ impl<'a> Layout<'a> {
         }
         let l1_table = load_l1_table(alloc, image, header)?;
         let counters = Counters::new(alloc, image, header)?;
-        let reftable = counters.reftable();
-        let mut windows = Windows::new(header, reftable);
-        let window = windows.place(image, header, &l1_table, reftable, 0)?;
+        let tables = ImageTables {
+            header,
+            l1_table: &l1_table,
+            reftable: counters.reftable(),
+        };
+        let mut windows = Windows::new(&tables);
+        let window = windows.place(image, &tables, 0)?;
         Ok(Layout {
             header,
             l1_table,
@@ -245,10 +249,12 @@ impl<'a> Layout<'a> {
         }
         // Its memory is given back before the next takes as much.
         self.window = None;
-        let reftable = self.counters.reftable();
-        let window = self
-            .windows
-            .place(image, self.header, &self.l1_table, reftable, cluster)?;
+        let tables = ImageTables {
+            header: self.header,
+            l1_table: &self.l1_table,
+            reftable: self.counters.reftable(),
+        };
+        let window = self.windows.place(image, &tables, cluster)?;
         self.window = Some(window);
         Ok(())
     }

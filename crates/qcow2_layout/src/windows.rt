@@ -1,21 +1,22 @@
 //! Which clusters are looked at at once.
 
-ghost use Rattle.std.specs.Prelude.{◌≡◌, ◌*◌, ◌<◌, ◌≤◌, IfOk, false, length};
-ghost use Rattle.qcow2_base.specs.Format.{max_file_length, most_l1_entries};
+ghost use Rattle.std.specs.Prelude.{◌≡◌, ◌*◌, ◌<◌, ◌≤◌, IfOk, false};
+ghost use Rattle.qcow2_base.specs.Format.{max_file_length};
 ghost use Rattle.qcow2_base.specs.Storage.{OnImage};
 ghost use Rattle.qcow2_metadata.specs.Header.{geometry_of};
 ghost use Rattle.qcow2_metadata.specs.Results.{Reads};
 ghost use Rattle.qcow2_metadata.specs.Table.{IsEntryFault};
 ghost use Rattle.qcow2_check.specs.Counters.{IsCountedEnd};
-ghost use Rattle.qcow2_check.specs.Uses.{all_load, image_tables};
+ghost use Rattle.qcow2_check.specs.Uses.{all_load};
 ghost use Rattle.qcow2_layout.specs.Window.{PlacesAll};
 ghost use Rattle.qcow2_layout.specs.Windows.{IsSize, most_window_bytes};
 
 use crate::places::place_image;
 use crate::window::Window;
 use qcow2_base::{Fault, MAX_FILE_LENGTH, Storage};
+use qcow2_check::ImageTables;
 use qcow2_check::parts::counted_end;
-use qcow2_metadata::{Header, L1Table, RefTable, Table};
+use qcow2_metadata::Table;
 
 // The fewest cells that lie one after another.
 const FEW_CELLS: u64 = 4096;
@@ -54,13 +55,12 @@ pub(crate) struct Windows {
 
 impl Windows {
     /// The windows of an image with this header.
-    pub(crate) fn new(header: &Header, reftable: &RefTable) -> Windows
-        requires { reftable.now.geometry ≡ geometry_of header.now }
-        ensures counted { IsCountedEnd header.now reftable.now.numbers result.counted }
+    pub(crate) fn new(tables: &ImageTables<'_>) -> Windows
+        ensures counted { IsCountedEnd tables.now.header tables.now.reftable result.counted }
         ensures is_sparse { result.is_sparse ≡ false }
     {
         Windows {
-            counted: counted_end(header, reftable),
+            counted: counted_end(tables.header, tables.reftable),
             is_sparse: false,
         }
     }
@@ -91,26 +91,22 @@ impl Windows {
     pub(crate) fn place<S: Storage>(
         &mut self,
         image: &mut S,
-        header: &Header,
-        l1_table: &L1Table,
-        reftable: &RefTable,
+        tables: &ImageTables<'_>,
         first: u64,
     ) -> Result<Window, Fault>
-        requires first { first < max_file_length }
-        requires l1_table { (l1_table.now.geometry ≡ geometry_of header.now)
-            × (length l1_table.now.numbers ≤ most_l1_entries) }
-        requires reftable { reftable.now.geometry ≡ geometry_of header.now }
-        ensures reads { Reads (λ _. tt) result (all_load (geometry_of header.now) l1_table.now.numbers)
+        requires { first < max_file_length }
+        ensures reads { Reads (λ _. tt) result (all_load (geometry_of tables.now.header) tables.now.l1)
             IsEntryFault (S.state image.old) (S.state image.new) }
-        ensures placed { IfOk result (λ window. OnImage (S.state image.old) (λ bytes. PlacesAll
-            (image_tables header.now l1_table.now.numbers reftable.now.numbers) bytes window)) }
+        ensures placed { IfOk result (λ window. OnImage (S.state image.old) (λ bytes.
+            PlacesAll tables.now bytes window)) }
         ensures first { IfOk result (λ window. (window.first ≡ first) × (first < window.end)
             × (window.end ≤ max_file_length)) }
         ensures same { self.new ≡ record self.old { is_sparse = self.new.is_sparse } }
     {
         let Size { dense, most } = self.size_at(first);
-        let mut window = Window::new(l1_table.allocator(), first, dense, most)?;
-        place_image(&mut window, image, header, l1_table, reftable)?;
+        let alloc = tables.l1_table.allocator();
+        let unused = Window::new(alloc, first, dense, most)?;
+        let window = place_image(unused, image, tables)?;
         prove!(first < window.end());
         self.is_sparse |= window.used() < MOST_SPARSE;
         Ok(window)

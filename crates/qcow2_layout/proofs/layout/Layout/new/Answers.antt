@@ -17,6 +17,6 @@ returns-clause-reader g c = λ told. record {
   placed =
       let bytes : (g.S.Storage.state c.new.new.image).byte_at ≡ (g.S.Storage.state c.args.image.now).byte_at = search rules in
       let known : IsTrue (g.S.Storage.state c.new.new.image).tells = search rules in
-      rw (bytes, c.reftable-reftable.ensures.numbers) at (c.in_ok-window.ensures.placed known);
+      rw (bytes, c.reftable.ensures.numbers) at (c.in_ok-window.ensures.placed known);
   loads = search rules;
 }
