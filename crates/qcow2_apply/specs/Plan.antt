@@ -1,24 +1,33 @@
 -- What will edits of a disk do to an image, and when can't they be made of it?
 use Rattle.qcow2_changes.specs.PlannedChanges.{SomeIsUncounted, AreSorted, CannotCount}
 use Rattle.qcow2_apply.specs.PlannedTables.{AreReadBy, tables_refusal, lost_before, counter_tables, ComesTo}
-use Rattle.std.specs.Prelude.{◌≡◌, ℕ, false, ◌<◌, List, length, IsSome, None, Result, Ok, Err}
+use Rattle.std.specs.Prelude.{◌≡◌, ℕ, false, ◌<◌, if◌then◌else◌, List, length, IsSome, None, option_map, Result, Ok, Err}
 use Rattle.qcow2_base.specs.Storage.{Image}
 use Rattle.qcow2_base.specs.declared.fault.Fault.{Fault}
-use Rattle.qcow2_base.specs.declared.fault.Fault.TheVariants.{CounterRange}
+use Rattle.qcow2_base.specs.declared.fault.Fault.TheVariants.{BadEdit, CounterRange}
 use Rattle.qcow2_metadata.specs.Header.{HeaderRecord, geometry_of, uses_external_data}
 use Rattle.qcow2_metadata.specs.Results.{and_then, unless_refused}
 use Rattle.qcow2_metadata.specs.Table.{TableState}
 use Rattle.qcow2_check.specs.Counters.{CountersState, block_of_cluster, blocks_fault, counters_each, placed_reftable}
+use Rattle.qcow2_check.specs.FileEnd.{tables_in_file}
+use Rattle.qcow2_check.specs.L1Length.{short_l1_refusal}
 use Rattle.qcow2_check.specs.NamedTables.{loaded_l1_table}
 use Rattle.qcow2_check.specs.Uses.{ImageTables, image_tables}
 use Rattle.qcow2_changes.specs.ChangedClusters.{ListsChanges}
 use Rattle.qcow2_changes.specs.Changes.{losses_of}
 use Rattle.qcow2_guest_edits.specs.EditsByTable.{IsByTable}
-use Rattle.qcow2_guest_edits.specs.GuestEdits.{edits_refusal}
+use Rattle.qcow2_guest_edits.specs.GuestEdits.{edits_refusal, first_unfit_within}
 use Rattle.qcow2_guest_edits.specs.Tables.{AllFit}
 use Rattle.qcow2_changes.specs.declared.changes.Changes.{Changes}
 use Rattle.qcow2_apply.specs.declared.plan.Plan.{Plan}
 use Rattle.qcow2_guest_edits.specs.declared.guest_edits.GuestEdit.{GuestEdit}
+
+-- why edits can't be made of an image with this header and of this length, if they can't: the L1 table is too short, the first
+-- edit that doesn't fit the disk or maps a cluster past the end, or a table past the end. With an external data file clusters
+-- lie elsewhere, and the edits are refused for that
+abbrev pub edits_within : HeaderRecord → List GuestEdit → ℕ → Image → Result (Unit {0}) Fault
+edits_within header edits len image = unless_refused (short_l1_refusal header) (if uses_external_data header then Ok tt
+    else unless_refused (option_map BadEdit (first_unfit_within len header edits)) (tables_in_file len header image))
 
 -- the tables that edits are made by, or the first refusal but for counters that can't follow
 abbrev pub planned_tables : HeaderRecord → List GuestEdit → Image → Result ImageTables Fault
@@ -46,8 +55,9 @@ pub data SomeCannotCount (tables : ImageTables) (edits : List GuestEdit) (image 
   NoCounter : SomeIsUncounted tables.header tables.reftable (lost_before tables edits image (length tables.l1))
       → SomeCannotCount tables edits image
 
--- edits of a disk are refused by this fault: by one of the tables, or because counters can't count what they do
+-- edits of a disk are refused by this fault: by the image's end, by one of the tables, or because counters can't count what they do
 pub data RefusesEdits (header : HeaderRecord) (edits : List GuestEdit) (image : Image) (fault : Fault) : Type 0 where
+  ByEnd : (len : ℕ) → edits_within header edits len image ≡ Err fault → RefusesEdits header edits image fault
   ByTables : planned_tables header edits image ≡ Err fault → RefusesEdits header edits image fault
   ByCounters : (tables : ImageTables) → planned_tables header edits image ≡ Ok tables → fault ≡ CounterRange
       → SomeCannotCount tables edits image → RefusesEdits header edits image fault

@@ -3,9 +3,9 @@
 ghost use Rattle.std.specs.Prelude.{◌≡◌, ◌≢◌, ℕ, IfErr, IfOk, IsOkUnless, MatchResult, OnOk};
 ghost use Rattle.qcow2_base.specs.Storage.{Image, OnImage, OnImages, SameOutside};
 ghost use Rattle.qcow2_base.specs.declared.fault.Fault.TheVariants.{NoMemory, Storage};
-ghost use Rattle.qcow2_check.specs.Failures.{ReportsFailures};
+ghost use Rattle.qcow2_check.specs.Failures.{RefusesAs, ReportsFailures};
 ghost use Rattle.qcow2_apply.specs.Apply.{Applies, AreAllApart, BreaksOffApplying, CanBeMade, EditsDisk, FollowsPlan, IsElsewhere, IsWorkspaceOf, LeavesHeader, tables_by};
-ghost use Rattle.qcow2_apply.specs.Plan.{IsPlanFor, IsPlanOf};
+ghost use Rattle.qcow2_apply.specs.Plan.{IsPlanFor, IsPlanOf, edits_within};
 
 use crate::blocks::follow_changes;
 use crate::plan::Plan;
@@ -108,13 +108,11 @@ impl Plan {
 ///
 /// All is looked at first, and refused where something can't be: by 41 where the L1 table is too short for
 /// the disk; by 36 with an external data file; by 32 and the position of the first edit that doesn't fit the
-/// disk; by 27 for zeros in version 2; by the faults of the L1 table and of the refcount table. Then by
-/// table, in their order: by 23 where there is none, but for discards; by 40 and the position of the first of
+/// disk or maps a cluster past the image's end; by the faults of `refuse_tables_past_end`; by 27 for zeros in
+/// version 2; by the faults of the L1 table and of the refcount table. Then by table, in their order: by 23 where there is none, but for discards; by 40 and the position of the first of
 /// its edits where its counter isn't 1 or its L1 entry isn't copied; by those of its load; for a mapped
 /// cluster by 23 where it has no counter, and by 32 where that isn't 0 or another edit maps it. Last by 30
 /// where a counter can't follow.
-///
-/// Where the image ends isn't looked at: `refuse_tables_past_end` of `qcow2_repair` does.
 ///
 /// Then autoclear features are cleared, in the header too. What clusters gain is counted before tables are
 /// edited, and what they lose after that, each on the device before the next begins. So where no cluster is
@@ -132,6 +130,8 @@ pub fn apply_edits<S: Device>(
     ensures header { LeavesHeader header.old result header.new }
     ensures edited { OnImages (S.state image.old) (S.state image.new)
         (EditsDisk header.old header.new edits.now result) }
+    ensures end { OnImage (S.state image.old) (λ bytes.
+        RefusesAs (edits_within header.old edits.now (S.state image.old).len bytes) result) }
     ensures storage { ReportsFailures result (S.state image.old) (S.state image.new) }
 {
     let plan = Plan::new(alloc, image, header, edits)?;

@@ -2,14 +2,15 @@
 
 ghost use Rattle.std.specs.Prelude.{◌≡◌, ◌⊎◌, ◌<◌, Err, IfErr, IfOk, Ok, ◌/◌, Some};
 ghost use Rattle.qcow2_base.specs.Storage.{OnImage, OnlyReads};
-ghost use Rattle.qcow2_metadata.specs.Results.{IsFromOutside, unless_refused};
-ghost use Rattle.qcow2_apply.specs.Plan.{AreRead, CanBePlannedBy, RefusesEdits, IsPlanOf, IsPlanFor};
+ghost use Rattle.qcow2_check.specs.Failures.{RefusesAs};
+ghost use Rattle.qcow2_metadata.specs.Results.{Answers, IsFromOutside, unless_refused};
+ghost use Rattle.qcow2_apply.specs.Plan.{AreRead, CanBePlannedBy, IsPlanFor, IsPlanOf, RefusesEdits, edits_within};
 
 use crate::planned_tables::plan_by_tables;
-use qcow2_base::{Fault, Storage};
+use qcow2_base::{Device, Fault, Storage};
 use qcow2_changes::{ChangedClusters, Changes, CounterTables};
-use qcow2_check::{Counters, load_l1_table};
-use qcow2_guest_edits::parts::check_edits;
+use qcow2_check::{Counters, load_l1_table, refuse_short_l1, refuse_tables_past_end};
+use qcow2_guest_edits::parts::{check_edits, first_unfit_within};
 use qcow2_guest_edits::{EditsByTable, GuestEdit};
 use qcow2_metadata::{Header, L1Table, RefTable};
 use std::alloc::Global;
@@ -53,10 +54,56 @@ pub struct Plan {
     pub clusters: ChangedClusters,
 }
 
+// Refuses edits of a disk: by 41 where the L1 table is too short, by 32 and the position of the first edit
+// that doesn't fit the disk or maps a cluster past the image's end, or by the faults of tables past the end.
+// With an external data file the edits are refused later.
+fn refuse_past_end<S: Device>(
+    alloc: Global,
+    image: &mut S,
+    header: &Header,
+    edits: &[GuestEdit],
+) -> Result<(), Fault>
+    ensures exact { OnImage (S.state image.old) (λ bytes. Answers (λ done. done) result
+        (edits_within header.now edits.now (S.state image.old).len bytes)) }
+    ensures storage { OnlyReads result (S.state image.old) (S.state image.new) }
+{
+    refuse_short_l1(header)?;
+    if header.external_data_file() {
+        return Ok(());
+    }
+    let Some(len) = image.len()? else {
+        return Ok(());
+    };
+    if let Some(position) = first_unfit_within(header, edits, len) {
+        return Err(Fault::BadEdit(position));
+    }
+    refuse_tables_past_end(alloc, image, header)
+}
+
 impl Plan {
     /// Looks at all that edits of a disk need and do, and refuses them where something can't be, by the
     /// faults that `apply_edits` names. Changes no byte.
-    pub fn new<S: Storage>(
+    pub fn new<S: Device>(
+        alloc: Global,
+        image: &mut S,
+        header: &Header,
+        edits: &[GuestEdit],
+    ) -> Result<Plan, Fault>
+        ensures planned { IfOk result (λ plan. OnImage (S.state image.old) (λ bytes.
+            IsPlanOf header.now edits.now bytes plan)) }
+        ensures plan { IfOk result (IsPlanFor header.now edits.now) }
+        ensures refused { IfErr result (λ fault. OnImage (S.state image.old) (λ bytes.
+            IsFromOutside fault ⊎ RefusesEdits header.now edits.now bytes fault)) }
+        ensures end { OnImage (S.state image.old) (λ bytes.
+            RefusesAs (edits_within header.now edits.now (S.state image.old).len bytes) result) }
+        ensures storage { OnlyReads result (S.state image.old) (S.state image.new) }
+    {
+        refuse_past_end(alloc, image, header, edits)?;
+        Plan::of_whole(alloc, image, header, edits)
+    }
+
+    // The same of an image that has all tables and blocks which it names, and all clusters that are mapped.
+    fn of_whole<S: Storage>(
         alloc: Global,
         image: &mut S,
         header: &Header,

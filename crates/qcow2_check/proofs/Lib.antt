@@ -1,5 +1,7 @@
 pub mod CountersLemmas
 pub mod CountingLemmas
+pub mod FailuresLemmas
+pub mod FileEndLemmas
 pub mod FindingsLemmas
 pub mod FindingsListLemmas
 pub mod FlagsLemmas

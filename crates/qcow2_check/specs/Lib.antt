@@ -1,5 +1,6 @@
 pub mod Counters
 pub mod Failures
+pub mod FileEnd
 pub mod Findings
 pub mod Flags
 pub mod ImageTables

@@ -3,6 +3,7 @@
 
 mod counters;
 mod counting;
+mod file_end;
 mod findings;
 mod flags;
 mod image_tables;
@@ -18,6 +19,7 @@ mod walk;
 mod windows;
 
 pub use counters::Counters;
+pub use file_end::{FileEnd, refuse_tables_past_end};
 pub use findings::{Finding, Findings};
 pub use flags::{FlagPlace, Flags, WrongFlag};
 pub use image_tables::ImageTables;
@@ -27,4 +29,4 @@ pub use totals::Totals;
 pub use use_sink::UseSink;
 pub use uses::{Use, UseKind};
 pub use verdict::Verdict;
-pub use walk::{walk_guest, walk_tables, walk_uses};
+pub use walk::{walk_blocks, walk_guest, walk_header, walk_l2_tables, walk_tables, walk_uses};

@@ -18,8 +18,8 @@ use crate::uses::{Use, UseKind};
 use qcow2_base::{ClusterCount, Fault, HostCluster, Storage};
 use qcow2_metadata::{Header, L1Table, RefTable, Table};
 
-// Takes the clusters of the header, of the L1 table and of the refcount table.
-fn take_header<U: UseSink>(header: &Header, sink: &mut U) -> Result<(), Fault>
+/// Takes what a header says of itself: its cluster, and those of the L1 table and of the refcount table.
+pub fn walk_header<U: UseSink>(header: &Header, sink: &mut U) -> Result<(), Fault>
     ensures fault { IsOkUnless result NoMemory }
     ensures taken { OnOk result (U.takes (header_list header.now) sink.old sink.new) }
 {
@@ -55,8 +55,8 @@ fn take_block<U: UseSink>(reftable: &RefTable, index: usize, sink: &mut U) -> Re
     }
 }
 
-// Takes the refcount blocks that a refcount table names.
-fn take_blocks<U: UseSink>(reftable: &RefTable, sink: &mut U) -> Result<(), Fault>
+/// Takes the refcount blocks that a refcount table names.
+pub fn walk_blocks<U: UseSink>(reftable: &RefTable, sink: &mut U) -> Result<(), Fault>
     requires { length reftable.now.numbers ≤ most_reftable_entries }
     ensures fault { IsOkUnless result NoMemory }
     ensures taken { OnOk result (U.takes
@@ -83,8 +83,8 @@ fn take_l2_table<U: UseSink>(l1_table: &L1Table, index: usize, sink: &mut U) -> 
     }
 }
 
-// Takes the L2 tables that an L1 table names.
-fn take_l2_tables<U: UseSink>(l1_table: &L1Table, sink: &mut U) -> Result<(), Fault>
+/// Takes the L2 tables that an L1 table names, themselves.
+pub fn walk_l2_tables<U: UseSink>(l1_table: &L1Table, sink: &mut U) -> Result<(), Fault>
     requires { length l1_table.now.numbers ≤ most_l1_entries }
     ensures fault { IsOkUnless result NoMemory }
     ensures taken { OnOk result (U.takes
@@ -97,15 +97,15 @@ fn take_l2_tables<U: UseSink>(l1_table: &L1Table, sink: &mut U) -> Result<(), Fa
     Ok(())
 }
 
-/// Takes what an image's tables use themselves: its header's cluster, its L1 table, its refcount table, its
-/// refcount blocks and its L2 tables. Reads nothing of the image, and fails only where memory runs out.
+/// Takes what an image's tables use themselves, by `walk_header`, `walk_blocks` and `walk_l2_tables`. Reads
+/// nothing of the image, and fails only where memory runs out.
 pub fn walk_tables<U: UseSink>(tables: &ImageTables<'_>, sink: &mut U) -> Result<(), Fault>
     ensures fault { IsOkUnless result NoMemory }
     ensures taken { OnOk result (U.takes (tables_list tables.now) sink.old sink.new) }
 {
-    take_header(tables.header, sink)?;
-    take_blocks(tables.reftable, sink)?;
-    take_l2_tables(tables.l1_table, sink)
+    walk_header(tables.header, sink)?;
+    walk_blocks(tables.reftable, sink)?;
+    walk_l2_tables(tables.l1_table, sink)
 }
 
 // Loads the L2 table that begins with a cluster, and takes what its entries refer to.

@@ -1,5 +1,5 @@
-//! Tests of what an image says of its own clusters: of counters, of findings, of wrong flags, of all of them
-//! together, and of what each cluster is.
+//! Tests of what an image says of its own clusters: of what uses them, of counters, of findings, of wrong
+//! flags, of all of them together, and of what each cluster is.
 #![tactic(auto)]
 
 #[cfg(test)]
@@ -18,3 +18,5 @@ mod refused_calls;
 mod repair;
 #[cfg(test)]
 mod sample_image;
+#[cfg(test)]
+mod uses;

@@ -7,9 +7,9 @@ ghost use Rattle.qcow2_base.specs.declared.fault.Fault.TheVariants.{Storage as S
 use super::fields::{Topic, fields_of};
 use super::places::Place;
 use super::refusals::Refusal;
-use super::tables::{TablePlace, block_from, l1_place, l2_table_from, places_of, reftable_place};
-use qcow2_base::{Fault, Storage};
-use qcow2_check::{load_l1_table, load_reftable};
+use super::tables::{block_past, l2_table_past, places_of};
+use qcow2_base::{ClusterCount, Fault, Storage};
+use qcow2_check::{FileEnd, UseKind, load_l1_table, load_reftable, walk_header};
 use qcow2_metadata::Header;
 use std::alloc::Global;
 
@@ -24,7 +24,7 @@ pub(super) fn past_end_refusal<S: Storage>(
 ) -> Result<Option<Refusal>, Fault>
     ensures storage { ReadsFor (IsErrOf result StorageFailed) (S.state image.old) (S.state image.new) }
 {
-    let clusters = length.div_ceil(header.cluster_size() as u64);
+    let clusters = ClusterCount::from_byte_size(length, header.cluster_bits());
     let mut places = places_past_end(alloc, image, header, clusters)?;
     if places.is_empty() {
         return Ok(None);
@@ -35,57 +35,28 @@ pub(super) fn past_end_refusal<S: Storage>(
 }
 
 // What says where the first table or block lies that has a cluster past the end of a file of that many.
+// Tables are loaded only where none before them does.
 fn places_past_end<S: Storage>(
     alloc: Global,
     image: &mut S,
     header: &Header,
-    clusters: u64,
+    clusters: ClusterCount,
 ) -> Result<Vec<Place>, Fault>
     ensures storage { ReadsFor (IsErrOf result StorageFailed) (S.state image.old) (S.state image.new) }
 {
-    if is_past_end(header, &l1_place(header), clusters) {
-        return fields_of(alloc, image, Topic::L1Table);
+    let mut file = FileEnd::new(clusters);
+    walk_header(header, &mut file)?;
+    match file.missing.map(|used| used.kind) {
+        Some(UseKind::L1Table) => return fields_of(alloc, image, Topic::L1Table),
+        Some(_) => return fields_of(alloc, image, Topic::RefTable),
+        None => {}
     }
-    if is_past_end(header, &reftable_place(header), clusters) {
-        return fields_of(alloc, image, Topic::RefTable);
-    }
-    let block = block_past_end(alloc, image, header, clusters)?;
+    let reftable = load_reftable(alloc, image, header)?;
+    let block = block_past(header, &reftable, clusters)?;
     if block.is_some() {
         return Ok(places_of(alloc, block)?);
     }
-    let l2_table = l2_table_past_end(alloc, image, header, clusters)?;
-    Ok(places_of(alloc, l2_table)?)
-}
-
-// Whether a table has a cluster past the end of a file of that many clusters.
-fn is_past_end(header: &Header, table: &TablePlace, clusters: u64) -> bool {
-    let length = (table.entries as u64).saturating_mul(8);
-    let end = table.offset.saturating_add(length);
-    length > 0 && end.div_ceil(header.cluster_size() as u64) > clusters
-}
-
-// The first refcount table entry that names a block past the end of a file of that many clusters.
-fn block_past_end<S: Storage>(
-    alloc: Global,
-    image: &mut S,
-    header: &Header,
-    clusters: u64,
-) -> Result<Option<Place>, Fault>
-    ensures storage { ReadsFor (IsErrOf result StorageFailed) (S.state image.old) (S.state image.new) }
-{
-    let reftable = load_reftable(alloc, image, header)?;
-    Ok(block_from(header, &reftable, clusters))
-}
-
-// The first L1 entry that names an L2 table past the end of a file of that many clusters.
-fn l2_table_past_end<S: Storage>(
-    alloc: Global,
-    image: &mut S,
-    header: &Header,
-    clusters: u64,
-) -> Result<Option<Place>, Fault>
-    ensures storage { ReadsFor (IsErrOf result StorageFailed) (S.state image.old) (S.state image.new) }
-{
     let l1_table = load_l1_table(alloc, image, header)?;
-    Ok(l2_table_from(header, &l1_table, clusters))
+    let l2_table = l2_table_past(header, &l1_table, clusters)?;
+    Ok(places_of(alloc, l2_table)?)
 }

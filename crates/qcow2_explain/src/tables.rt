@@ -1,15 +1,19 @@
 //! The first table of an image that is refused, and the entry for which it is.
 
-ghost use Rattle.std.specs.Prelude.{◌≡◌, IsErrOf};
+ghost use Rattle.std.specs.Prelude.{◌≡◌, ◌≤◌, IsErrOf, IsOkUnless, length};
+ghost use Rattle.qcow2_base.specs.Format.{most_l1_entries, most_reftable_entries};
 ghost use Rattle.qcow2_base.specs.Storage.{ReadsFor};
-ghost use Rattle.qcow2_base.specs.declared.fault.Fault.TheVariants.{Storage as StorageFailed};
+ghost use Rattle.qcow2_base.specs.declared.fault.Fault.TheVariants.{NoMemory, Storage as StorageFailed};
 ghost use Rattle.qcow2_metadata.specs.Header.{geometry_of};
 
 use super::fields::{Topic, fields_of, read_number};
 use super::places::{Place, entry_offset};
 use super::refusals::{Refusal, is_of};
-use qcow2_base::{Fault, MAX_FILE_LENGTH, Storage};
-use qcow2_check::{load_l1_table, load_l2_table, load_reftable, named_block, named_cluster};
+use qcow2_base::{ClusterCount, Fault, MAX_FILE_LENGTH, Storage};
+use qcow2_check::{
+    FileEnd, load_l1_table, load_l2_table, load_reftable, named_cluster, walk_blocks,
+    walk_l2_tables,
+};
 use qcow2_metadata::{
     Header, L1Entry, L1Table, L2Entry, RefTable, RefTableEntry, Table, TableEntry,
 };
@@ -23,13 +27,13 @@ struct BadEntry {
     number: u64,
 }
 
-/// A table of an image: its kind, where it begins, and how many entries it has.
+// A table of an image: its kind, where it begins, and how many entries it has.
 #[derive(Clone, Copy)]
-pub(super) struct TablePlace {
+struct TablePlace {
     kind: &'static str,
     topic: Topic,
-    pub(super) offset: u64,
-    pub(super) entries: usize,
+    offset: u64,
+    entries: usize,
 }
 
 /// The refusal of a table in an image with this header: one by the fault of this number, if there is one, or
@@ -82,8 +86,8 @@ fn l1_refusal<S: Storage>(
     refusal_at::<S, L1Entry>(alloc, image, header, fault, &l1_place(header))
 }
 
-/// The L1 table of an image with this header.
-pub(super) fn l1_place(header: &Header) -> TablePlace {
+// The L1 table of an image with this header.
+fn l1_place(header: &Header) -> TablePlace {
     TablePlace {
         kind: "L1",
         topic: Topic::L1Table,
@@ -92,8 +96,8 @@ pub(super) fn l1_place(header: &Header) -> TablePlace {
     }
 }
 
-/// The refcount table of an image with this header.
-pub(super) fn reftable_place(header: &Header) -> TablePlace {
+// The refcount table of an image with this header.
+fn reftable_place(header: &Header) -> TablePlace {
     TablePlace {
         kind: "refcount table",
         topic: Topic::RefTable,
@@ -111,7 +115,7 @@ fn reftable_refusal<S: Storage>(
     ensures storage { ReadsFor (IsErrOf result StorageFailed) (S.state image.old) (S.state image.new) }
 {
     match load_reftable(alloc, image, header) {
-        Ok(reftable) => Ok(block_refusal(alloc, header, &reftable)?),
+        Ok(reftable) => block_refusal(alloc, header, &reftable),
         Err(fault) => Ok(Some(refusal_at::<S, RefTableEntry>(
             alloc,
             image,
@@ -240,35 +244,55 @@ fn block_refusal(
     alloc: Global,
     header: &Header,
     reftable: &RefTable,
-) -> Result<Option<Refusal>, AllocError> {
-    match block_from(header, reftable, MAX_FILE_LENGTH >> header.cluster_bits()) {
+) -> Result<Option<Refusal>, Fault>
+    requires { length reftable.now.numbers ≤ most_reftable_entries }
+    ensures { IsOkUnless result NoMemory }
+{
+    let clusters = ClusterCount(MAX_FILE_LENGTH >> header.cluster_bits());
+    match block_past(header, reftable, clusters)? {
         Some(place) => Ok(Some(Refusal::at(alloc, Fault::TablePlace, place)?)),
         None => Ok(None),
     }
 }
 
-/// The first entry of a refcount table that names a block in one of the clusters from this one on.
-pub(super) fn block_from(header: &Header, reftable: &RefTable, cluster: u64) -> Option<Place> {
-    for index in 0..reftable.entries() {
-        let block = named_block(reftable, index);
-        if block.is_some_and(|block| block.0 >= cluster) {
+/// The first entry of a refcount table that names a block past the end of a file of that many clusters.
+pub(super) fn block_past(
+    header: &Header,
+    reftable: &RefTable,
+    clusters: ClusterCount,
+) -> Result<Option<Place>, Fault>
+    requires { length reftable.now.numbers ≤ most_reftable_entries }
+    ensures { IsOkUnless result NoMemory }
+{
+    let mut file = FileEnd::new(clusters);
+    walk_blocks(reftable, &mut file)?;
+    Ok(
+        file.missing.map(|used| {
+            let index = used.owner as usize;
             let number = reftable.get(index).to_plain();
-            return Some(pointer_place(&reftable_place(header), index, number));
-        }
-    }
-    None
+            pointer_place(&reftable_place(header), index, number)
+        }),
+    )
 }
 
-/// The first entry of an L1 table that names an L2 table in one of the clusters from this one on.
-pub(super) fn l2_table_from(header: &Header, l1_table: &L1Table, cluster: u64) -> Option<Place> {
-    for index in 0..l1_table.entries() {
-        let l2_table = named_cluster(l1_table, index);
-        if l2_table.is_some_and(|l2_table| l2_table.0 >= cluster) {
+/// The first entry of an L1 table that names an L2 table past the end of a file of that many clusters.
+pub(super) fn l2_table_past(
+    header: &Header,
+    l1_table: &L1Table,
+    clusters: ClusterCount,
+) -> Result<Option<Place>, Fault>
+    requires { length l1_table.now.numbers ≤ most_l1_entries }
+    ensures { IsOkUnless result NoMemory }
+{
+    let mut file = FileEnd::new(clusters);
+    walk_l2_tables(l1_table, &mut file)?;
+    Ok(
+        file.missing.map(|used| {
+            let index = used.owner as usize;
             let number = l1_table.get(index).to_plain();
-            return Some(pointer_place(&l1_place(header), index, number));
-        }
-    }
-    None
+            pointer_place(&l1_place(header), index, number)
+        }),
+    )
 }
 
 // The place of the entry of a table at an index, which is this number.

@@ -7,6 +7,7 @@ use Rattle.qcow2_base.specs.Storage.{Image, OnImage, OnImages, OnlyReads, OnlyWr
 use Rattle.qcow2_base.specs.declared.fault.Fault.{Fault}
 use Rattle.qcow2_base.specs.declared.fault.Fault.TheVariants.{NoMemory, Storage}
 use Rattle.qcow2_base.specs.declared.types.HostCluster.{HostCluster}
+use Rattle.qcow2_check.proofs.FailuresLemmas.{unmoved}
 use Rattle.qcow2_check.proofs.NamedTablesLemmas.{l2_table_fits}
 use Rattle.qcow2_check.specs.NamedTables.{IsInImage}
 use Rattle.qcow2_edits.specs.Edits.{Makes, edit_fits, table_edit}
@@ -198,24 +199,6 @@ reread-fault g of cluster image fault is within faults memory exact =
       ],
     )
 
--- states of a storage that agree in all are one
-same-state : (a b : StorageState) → b.tells ≡ a.tells → b.byte_at ≡ a.byte_at → b.len ≡ a.len → b.failures ≡ a.failures → b.mem_align ≡ a.mem_align
-    → b.req_align ≡ a.req_align → b ≡ a
-same-state a b tells bytes len failures mem_align req_align = λ i. record {
-  tells = tells i;
-  byte_at = bytes i;
-  len = len i;
-  failures = failures i;
-  mem_align = mem_align i;
-  req_align = req_align i;
-}
-
--- calls that only read and didn't fail leave a storage as it was
-unread : {T : Type 0} (value : T) (old read : StorageState) → OnlyReads (Ok value) old read → read ≡ old
-unread value old read reads =
-    let failures : read.failures ≡ old.failures = grind (arith, nat_tests, reads.told) in
-    same-state old read reads.device.tells reads.bytes reads.len failures reads.device.mem_align reads.device.req_align
-
 -- where nothing is written, no byte changes
 idle-writes : {T : Type 0} (value : T) (place : Option ℕ) (len : ℕ) (state : StorageState) → OnlyWrites (Ok value) place len state state
 idle-writes value place len state = record {
@@ -238,7 +221,7 @@ pub written-alone : {T U : Type 0} (header : HeaderRecord) (cluster : HostCluste
 written-alone {T} header cluster made value answer old read new reads held idle wrote =
     let layout = l2_layout (geometry_of header) in
     let of : layout_of_table l2_kind made ≡ layout = rw (held.geometry, held.count) refl in
-    subst (λ state. OnlyWrites answer (Some (offset_of layout cluster)) layout.byte_count state new) (unread value old read reads) (elim (cases_Bool made.modified) [
+    subst (λ state. OnlyWrites answer (Some (offset_of layout cluster)) layout.byte_count state new) (unmoved value old read reads) (elim (cases_Bool made.modified) [
       | inl is ↦ subst (λ place. OnlyWrites answer (option_map (offset_of layout) place) layout.byte_count read new) held.cluster
           (subst (λ there. OnlyWrites answer (option_map (offset_of there) made.cluster) there.byte_count read new) of (wrote is).storage)
       | inr is ↦ by_answer answer (idle is)

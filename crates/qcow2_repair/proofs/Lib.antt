@@ -1,6 +1,6 @@
 pub mod CheckableLemmas
 pub mod CountersLemmas
-pub mod FileEndLemmas
+pub mod EndLemmas
 pub mod FlagWindowsLemmas
 pub mod FlaggedLemmas
 pub mod FlagsLemmas

@@ -1,4 +1,4 @@
-use Rattle.std.proofs.Common.{◌≡◌, ◌≢◌, ◌⊎◌, ℕ, Bool, zero, suc, false, true, ap, ◌+◌, ◌-◌, ◌*◌, ◌/◌, ◌%◌, ◌^◌, ◌<◌, ◌≤◌, List, Option, Some, None, IsSome, Ok, Err, refl, subst, inl, inr, arith}
+use Rattle.std.proofs.Common.{◌≡◌, ◌≢◌, ◌⊎◌, ℕ, Bool, zero, suc, false, true, ap, ◌+◌, ◌-◌, ◌*◌, ◌/◌, ◌%◌, ◌^◌, ◌<◌, ◌≤◌, List, Option, Result, Some, None, IsSome, Ok, Err, refl, subst, inl, inr, arith}
 use Rattle.std.proofs.lemmas.Bool.{cases_lt}
 use Rattle.std.proofs.lemmas.Bool.Decides.{nat_tests}
 use Rattle.qcow2_base.specs.Format.{max_file_length}
@@ -187,14 +187,15 @@ header-cause header fault is = by_part (uncounted_part header) refl
         (inl (inl (rw there (ap Some same))), λ storage. grind (arith, same, storage))
 
 -- so nothing is read of an image with such a header
-pub refused-by-header : {T : Type 0} (view : T → ImageTables) (header : HeaderRecord) (fault : Fault) (state : StorageState)
+pub refused-by-header : {T V : Type 0} (view : T → V) (header : HeaderRecord) (fault : Fault) (meaning : Image → Result V Fault) (state : StorageState)
+    → (header_refusal header ≡ Some fault → (image : Image) → meaning image ≡ Err fault)
     → unless_refused (header_refusal header) (Ok (tt {0})) ≡ Err fault
-    → Reads {T = T} view (Err fault) (repairable_tables header) (IsRepairRefusal header) state state
-refused-by-header view header fault state refused =
+    → Reads {T = T} view (Err fault) meaning (IsRepairRefusal header) state state
+refused-by-header view header fault meaning state refuses refused =
     let is = refused-is (header_refusal header) fault refused in
     let cause = header-cause header fault is in
     record {
-      exact = λ told. inr (inr (rw is refl));
+      exact = λ told. inr (inr (refuses is state.byte_at));
       faults = inl cause.0;
       storage = record {
         told = grind (arith, cause.1);

@@ -1,5 +1,4 @@
 pub mod Counters
-pub mod FileEnd
 pub mod Flags
 pub mod Left
 pub mod Refusals

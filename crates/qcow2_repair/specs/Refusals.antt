@@ -9,6 +9,7 @@ use Rattle.qcow2_metadata.specs.Refblock.{greatest_counter}
 use Rattle.qcow2_metadata.specs.Results.{and_then, unless_refused}
 use Rattle.qcow2_metadata.specs.Table.{IsEntryFault}
 use Rattle.qcow2_check.specs.Counters.{block_of_cluster}
+use Rattle.qcow2_check.specs.FileEnd.{tables_in_file}
 use Rattle.qcow2_check.specs.Findings.{IsCheckFault, checked_tables, image_findings}
 use Rattle.qcow2_check.specs.L1Length.{short_l1_refusal}
 use Rattle.qcow2_check.specs.Uses.{ImageTables}
@@ -32,6 +33,11 @@ findings_refusal header reftable (finding ∷ findings) =
 -- too short for the disk
 abbrev pub header_refusal : HeaderRecord → Option Fault
 header_refusal header = option_or (option_map Uncounted (uncounted_part header)) (short_l1_refusal header)
+
+-- why an image with this header and of this length can't be repaired, if it can't: by the header alone, or by a table or block
+-- past the end
+abbrev pub repair_within : HeaderRecord → ℕ → Image → Result (Unit {0}) Fault
+repair_within header len image = unless_refused (header_refusal header) (tables_in_file len header image)
 
 -- the tables of an image by which it can be repaired, or the first fault: that of a check, or of a finding
 abbrev pub unrefused_tables : HeaderRecord → Image → Result ImageTables Fault

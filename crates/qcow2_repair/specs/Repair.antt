@@ -16,7 +16,7 @@ use Rattle.qcow2_check.specs.NamedTables.{l1_cluster, l1_layout}
 use Rattle.qcow2_check.specs.Uses.{ImageTables, all_load, image_tables, image_uses, uses_of}
 use Rattle.qcow2_repair.specs.Counters.{BreaksOff, PassesCounters}
 use Rattle.qcow2_repair.specs.Flags.{BreaksOffFlags, PassesFlags, l1_in, pass_all}
-use Rattle.qcow2_repair.specs.Refusals.{IsRepairRefusal, repairable_tables}
+use Rattle.qcow2_repair.specs.Refusals.{IsRepairRefusal, repair_within, repairable_tables}
 use Rattle.qcow2_check.specs.Failures.{ReportsFailures, TearsAtMost}
 use Rattle.qcow2_repair.specs.declared.counters.CounterPass.TheVariants.{Fall, Rise}
 
@@ -115,6 +115,7 @@ pub record RepairsImage (header : HeaderRecord) (answer : Result HeaderRecord Fa
       (λ written. IsRepaired header written before after)
       (λ fault. BreaksOffAt header fault before after))
   pub refused : IfErr answer (λ fault. OnImages old new (λ before after. IsFromOutside fault ⊎ ((after ≡ before)
-      × ((repairable_tables header before ≡ Err fault) ⊎ (header_after_load true (Ok header) ≡ Err fault)))))
+      × ((repairable_tables header before ≡ Err fault) ⊎ (header_after_load true (Ok header) ≡ Err fault)
+      ⊎ (repair_within header old.len before ≡ Err fault)))))
   pub faults : IfErr answer (λ fault. IsRepairRefusal header fault ⊎ IsWritableFault header fault)
   pub storage : ReportsFailures answer old new

@@ -2,13 +2,12 @@
 #![tactic(auto)]
 
 mod counters;
-mod file_end;
 mod flag_windows;
 mod flags;
 pub mod laws;
 mod refusals;
 mod repair;
 
-pub use file_end::refuse_tables_past_end;
+pub use qcow2_check::refuse_tables_past_end;
 pub use refusals::refuse_unrepairable;
 pub use repair::repair_image;

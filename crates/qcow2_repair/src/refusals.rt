@@ -10,10 +10,10 @@ ghost use Rattle.qcow2_check.specs.Findings.{IsFindingsOf, MovesFindings, findin
 ghost use Rattle.qcow2_check.specs.ImageTables.{IsPlacedReftable};
 ghost use Rattle.qcow2_check.specs.Uses.{image_tables};
 ghost use Rattle.qcow2_repair.specs.Repair.{IsRepairable};
-ghost use Rattle.qcow2_repair.specs.Refusals.{IsFindingRefusal, IsRepairRefusal, findings_refusal, header_refusal, refusal_of, repairable_tables, unrefused_tables};
+ghost use Rattle.qcow2_repair.specs.Refusals.{IsFindingRefusal, IsRepairRefusal, findings_refusal, header_refusal, refusal_of, repair_within, repairable_tables, unrefused_tables};
 
-use qcow2_base::{Fault, Storage};
-use qcow2_check::{Finding, Findings, refuse_short_l1};
+use qcow2_base::{Device, Fault, Storage};
+use qcow2_check::{Finding, Findings, refuse_short_l1, refuse_tables_past_end};
 use qcow2_metadata::{Header, L1Table, RefTable};
 use std::alloc::Global;
 
@@ -88,6 +88,20 @@ pub fn refuse_unrepairable(header: &Header) -> Result<(), Fault>
         return Err(Fault::Uncounted(part));
     }
     refuse_short_l1(header)
+}
+
+// Refuses an image with this header that can't be repaired: by the fault of `refuse_unrepairable`, or of
+// `refuse_tables_past_end`. Changes no byte.
+pub(crate) fn refuse_past_end<S: Device>(
+    alloc: Global,
+    image: &mut S,
+    header: &Header,
+) -> Result<(), Fault>
+    ensures reads { Reads (λ done. done) result (repair_within header.now (S.state image.old).len)
+        (IsRepairRefusal header.now) (S.state image.old) (S.state image.new) }
+{
+    refuse_unrepairable(header)?;
+    refuse_tables_past_end(alloc, image, header)
 }
 
 /// The L1 table and the refcount table of an image with this header that can be repaired.

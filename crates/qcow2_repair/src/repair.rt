@@ -8,13 +8,13 @@ ghost use Rattle.qcow2_metadata.specs.Results.{IsFromOutside};
 ghost use Rattle.qcow2_check.specs.ImageTables.{IsPlacedReftable};
 ghost use Rattle.qcow2_check.specs.NamedTables.{l1_cluster, l1_layout, loaded_l1_table};
 ghost use Rattle.qcow2_repair.specs.Repair.{BreaksOffCounters, BreaksOffRepair, IsPassFault, IsRepairFault, IsRepairable, Lowers, Raises, Repairs, RepairsImage, tables_in};
-ghost use Rattle.qcow2_check.specs.Failures.{ReportsFailures};
+ghost use Rattle.qcow2_check.specs.Failures.{RefusesAs, ReportsFailures};
 ghost use Rattle.qcow2_repair.specs.Flags.{IsL1TableOf, l1_in};
-ghost use Rattle.qcow2_repair.specs.Refusals.{repairable_tables};
+ghost use Rattle.qcow2_repair.specs.Refusals.{repair_within, repairable_tables};
 
 use crate::counters::{CounterPass, pass_all_counters};
 use crate::flag_windows::pass_all_flags;
-use crate::refusals::repairable_tables;
+use crate::refusals::{refuse_past_end, repairable_tables};
 use qcow2_base::{Device, Fault};
 use qcow2_check::{ImageTables, load_l1_table};
 use qcow2_metadata::{Header, L1Table, RefTable};
@@ -29,19 +29,27 @@ use std::alloc::Global;
 /// of clusters that have one. Nothing of a step is written before `Device::sync` has put all of the one
 /// before on the device. Nothing else changes.
 ///
-/// Returns the fault of `refuse_unrepairable` or of `Findings::new`, or of the first cluster that can't be
-/// repaired: 38 where its uses exclude each other, 30 where its counter can't hold their number. Then
+/// Returns the fault of `refuse_unrepairable`, of `refuse_tables_past_end` or of `Findings::new`, or of the
+/// first cluster that can't be repaired: 38 where its uses exclude each other, 30 where its counter can't hold their number. Then
 /// comes 24, where the header has no room, or 25 for a name that no loaded header has. No byte has changed
 /// then. Where memory runs out, a part of the steps may be done, and each counter and each entry is the
 /// old one or that of its step. Where the storage fails, any bytes may be in the header's text besides, or
 /// in one table or block.
-///
-/// Where the image ends isn't looked at: `refuse_tables_past_end` does.
 pub fn repair_image<S: Device>(
     alloc: Global,
     image: &mut S,
     header: Header,
 ) -> Result<Header, Fault>
+    ensures repairs { RepairsImage header result (S.state image.old) (S.state image.new) }
+    ensures end { OnImage (S.state image.old) (λ bytes.
+        RefusesAs (repair_within header (S.state image.old).len bytes) result) }
+{
+    refuse_past_end(alloc, image, &header)?;
+    repair_whole(alloc, image, header)
+}
+
+// The same of an image that has all tables and blocks which it names.
+fn repair_whole<S: Device>(alloc: Global, image: &mut S, header: Header) -> Result<Header, Fault>
     ensures { RepairsImage header result (S.state image.old) (S.state image.new) }
 {
     let (_, reftable) = repairable_tables(alloc, image, &header)?;

@@ -1,108 +1,33 @@
-use Rattle.std.proofs.Common.{◌≡◌, ◌≢◌, ◌≤◌, ◌⊎◌, ◌∙◌, ℕ, Bool, List, [], ◌∷◌, ◌-◌, drop, take, take_all, length, get_or, false, ap, Option, option_map, None, Some, Result, Ok, Err, inl, inr, refl, subst, sym, arith, IfSome}
+use Rattle.std.proofs.Common.{◌≡◌, ◌≤◌, ℕ, Bool, List, [], ◌∷◌, ◌-◌, drop, take, take_all, length, get_or, false, Option, None, Some, Result, Ok, Err, inl, inr, refl, subst, sym, arith, IfSome}
 use Rattle.std.specs.Bool.{IsTrue}
 use Rattle.std.specs.Io.KnownBytes.{Keeps}
 use Rattle.std.specs.Result.{IfOk, IsErr, MatchResult}
-use Rattle.qcow2_base.specs.Storage.{ChangesNoByte, Image, OnImage, OnlyReads, StorageState}
+use Rattle.qcow2_base.specs.Storage.{StorageState}
 use Rattle.qcow2_base.specs.Storage.File.{failures_of, file_of, file_state, state_over}
 use Rattle.qcow2_base.specs.Storage.ImageFile.{FileContent, OnFile}
 use Rattle.qcow2_base.specs.Storage.ImageFiles.{ChangesOne, ClosesImage, FailsFor, PathFile}
 use Rattle.qcow2_base.specs.declared.fault.Fault.{Fault}
-use Rattle.qcow2_base.specs.declared.fault.Fault.TheVariants.{BadEdit, NoMemory, Storage}
+use Rattle.qcow2_base.specs.declared.fault.Fault.TheVariants.{NoMemory, Storage}
 use Rattle.qcow2_base.specs.declared.storage.file.FileStorage.{FileStorage}
-use Rattle.qcow2_check.specs.L1Length.{short_l1_refusal}
-use Rattle.qcow2_metadata.specs.Header.{HeaderRecord, uses_external_data}
-use Rattle.qcow2_metadata.specs.Results.{Reads, unless_refused}
-use Rattle.qcow2_repair.proofs.RefusalsLemmas.{header-cause, refused-is}
-use Rattle.qcow2_repair.specs.Refusals.{header_refusal}
-use Rattle.qcow2_session.proofs.PrintingLemmas.{reads-calm, run_between}
+use Rattle.qcow2_metadata.specs.Header.{HeaderRecord}
+use Rattle.qcow2_session.proofs.PrintingLemmas.{run_between}
 use Rattle.qcow2_session.specs.Commands.{command_by_name, command_of, facts_of, image_name}
-use Rattle.qcow2_session.specs.Commands.Apply.{first_unfit_within}
 use Rattle.qcow2_session.specs.Commands.Printing.{AppendsPart, OutputBytes}
 use Rattle.qcow2_session.specs.Commands.Report.{ReportsFault, fault_line}
-use Rattle.qcow2_session.specs.Commands.RunningOnFiles.{ComparesWithEnd, FitsEnd, IsEditsEndFault, IsRefusedByEnd, IsRepairEndFault, RunsLine, RunsOnFile, RunsWords, StopsOrEnds, edits_within, repair_within, told_beside}
+use Rattle.qcow2_session.specs.Commands.RunningOnFiles.{RunsLine, RunsOnFile, RunsWords, StopsOrEnds, told_beside}
 use Rattle.qcow2_session.specs.Commands.Running.{AfterHeader, EndsAndFlushes, FindsHeader}
 use Rattle.qcow2_check.specs.Verdict.{status_of_verdict}
 use Rattle.qcow2_session.specs.Commands.Words.{Word, WordList}
 use Rattle.qcow2_session.specs.declared.commands.Command.{Command}
-use Rattle.qcow2_session.specs.declared.commands.Command.TheVariants.{Apply}
-use Rattle.qcow2_session.specs.declared.commands.apply.ApplyForm.{ApplyForm}
-use Rattle.qcow2_session.specs.declared.commands.apply.DiskEdit.{DiskEdit}
 use Rattle.qcow2_check.specs.declared.verdict.Verdict.{Verdict}
 use Rattle.qcow2_check.specs.declared.verdict.Verdict.TheVariants.{Fine}
 
--- a run found its header, and stopped before its command
-pub stopped-before : {O : Type 0} (command : Command) (header : HeaderRecord) (fault : Fault) (contents : O → OutputBytes) (old left new : StorageState) (out : O)
-    → FindsHeader (facts_of command) (Ok header) old left
-    → ((fault ≡ NoMemory) × IsTrue (facts_of command).reads_all_tables) ⊎ IsRefusedByEnd command header left fault
-    → OnlyReads {T = Verdict} (Err fault) left new
-    → AfterHeader (facts_of command) (StopsOrEnds command) (run_between contents (Err fault) old new out out)
-stopped-before command header fault contents old left new out finds why reads =
-    (Ok header, left, finds, inl (record { fault = why; reads = reads; output = refl }))
-
--- calls that only read and didn't fail leave a storage as it was
-pub unmoved : {T : Type 0} (value : T) (old new : StorageState) → OnlyReads (Ok value) old new → new ≡ old
-unmoved value old new reads = grind (arith, reads.device, reads.bytes, reads.len, reads-calm value old new reads)
-
--- the fault of reads is that of what they were made for
-pub same-reads : {A B : Type 0} (fault : Fault) (old new : StorageState) → OnlyReads {T = A} (Err fault) old new → OnlyReads {T = B} (Err fault) old new
-same-reads fault old new reads = record { told = grind (arith, reads.told); bytes = reads.bytes; len = reads.len; device = reads.device }
-
--- no call was made
-pub unread : {T : Type 0} (fault : Fault) (state : StorageState) → fault ≢ Storage → OnlyReads {T = T} (Err fault) state state
-unread fault state other = record {
-  told = grind (arith, other);
-  bytes = refl;
-  len = refl;
-  device = record { tells = refl; mem_align = refl; req_align = refl };
-}
-
--- nothing was read before a refusal that isn't the storage's fault
-pub refused-unread : {T V : Type 0} (view : T → V) (fault : Fault) (meaning : Image → Result V Fault) (IsRefusal : Fault → Type 0) (state : StorageState)
-    → ((bytes : Image) → meaning bytes ≡ Err fault) → IsRefusal fault → fault ≢ Storage → Reads {T = T} view (Err fault) meaning IsRefusal state state
-refused-unread view fault meaning IsRefusal state refused cause other =
-    record { exact = λ told. inr (inr (refused state.byte_at)); faults = inl cause; storage = unread fault state other }
-
--- what doesn't refuse is none
-unrefused : (found : Option Fault) → unless_refused found (Ok (tt {0})) ≡ Ok tt → found ≡ None
-unrefused None is = refl
-unrefused (Some fault) is = absurd (grind (arith, is))
-
--- an edit that doesn't fit the disk or the image's end is refused so, once the end is known
-pub bad-edit : (edits : List DiskEdit) (header : HeaderRecord) (len position : ℕ) (old new : StorageState)
-    → unless_refused (short_l1_refusal header) (Ok (tt {0})) ≡ Ok tt → uses_external_data header ≡ false → first_unfit_within len header edits ≡ Some position
-    → OnImage old (λ _. len ≡ old.len) → ChangesNoByte {T = ℕ} {E = Fault} (Ok len) old new
-    → Reads {T = Unit {0}} (λ done. done) (Err (BadEdit position)) (edits_within edits header old.len) (IsEditsEndFault edits header) old new
-bad-edit edits header len position old new long inside unfit ends asked =
-    let none = unrefused (short_l1_refusal header) long in
-    record {
-      exact = λ told. inr (inr (rw (none, inside, ← (ends told), unfit) refl));
-      faults = inl (inr (inl (len, ap (option_map BadEdit) unfit, inside)));
-      storage = record { told = grind (arith, asked.failures); bytes = asked.unchanged; len = asked.len; device = asked.device };
-    }
-
--- and a header by which an image can't be repaired
-pub bad-header : (header : HeaderRecord) (len : ℕ) (fault : Fault) (state : StorageState) → unless_refused (header_refusal header) (Ok (tt {0})) ≡ Err fault
-    → Reads {T = Unit {0}} (λ done. done) (Err fault) (repair_within header len) (IsRepairEndFault header) state state
-bad-header header len fault state refused =
-    let is = refused-is (header_refusal header) fault refused in
-    refused-unread (λ done. done) fault (repair_within header len) (IsRepairEndFault header) state
-    (λ bytes. rw is refl) (inl is) (header-cause header fault is).1
-
--- edits were compared with the image's end
-pub edits-compared : (form : ApplyForm) (edits : List DiskEdit) (header : HeaderRecord) (old new : StorageState) (answer : Result (Unit {0}) Fault)
-    → Reads {T = Unit {0}} (λ done. done) answer (edits_within edits header old.len) (IsEditsEndFault edits header) old new
-    → ComparesWithEnd (Apply form edits) header old answer
-edits-compared form edits header old new (Ok done) reads = λ told. reads.exact told
-edits-compared form edits header old new (Err fault) reads = record {
-  refusal = reads.faults;
-  known = λ told. elim (reads.exact told) [
-    | inl failed ↦ inl (inr failed)
-    | inr rest ↦ elim rest [
-      | inl full ↦ inl (inl full)
-      | inr refused ↦ inr refused
-    ]
-  ];
-}
+-- a run found its header, and stopped before its command, since memory for pages ran out
+pub stopped-before : {O : Type 0} (command : Command) (header : HeaderRecord) (contents : O → OutputBytes) (old left : StorageState) (out : O)
+    → FindsHeader (facts_of command) (Ok header) old left → IsTrue (facts_of command).reads_all_tables
+    → AfterHeader (facts_of command) (StopsOrEnds command) (run_between contents (Err NoMemory) old left out out)
+stopped-before command header contents old left out finds all =
+    (Ok header, left, finds, inl (record { fault = refl; reads_all_tables = all; image = refl; output = refl }))
 
 -- what a run came to is a fault too once it is told beside other programs, if it was one
 pub placed-beside : (Kept : Type 0) (found : Option Fault) (ran told : Result Verdict Fault) → (IsErr ran → IsErr told) → IfSome found (λ _. IsErr ran × Kept)
@@ -113,15 +38,15 @@ placed-beside Kept (Some fault) ran told errs held = (errs held.0, held.1)
 -- or its command ran, over what the header left, and what it left is the image
 pub ran-between : {O : Type 0} (command : Command) (header : HeaderRecord) (answer : Result Verdict Fault) (contents : O → OutputBytes)
     (old left begun ended new : StorageState) (before after : O)
-    → FindsHeader (facts_of command) (Ok header) old left → FitsEnd command header left → begun ≡ left → new ≡ ended
+    → FindsHeader (facts_of command) (Ok header) old left → begun ≡ left → new ≡ ended
     → EndsAndFlushes (facts_of command) header (run_between contents answer begun ended before after)
     → AfterHeader (facts_of command) (StopsOrEnds command) (run_between contents answer old new before after)
-ran-between command header answer contents old left begun ended new before after finds fits same last ends =
+ran-between command header answer contents old left begun ended new before after finds same last ends =
     rw last (
       Ok header,
       left,
       finds,
-      inr (fits, subst (λ (s : StorageState). EndsAndFlushes (facts_of command) header (run_between contents answer s ended before after)) same ends),
+      inr (subst (λ (s : StorageState). EndsAndFlushes (facts_of command) header (run_between contents answer s ended before after)) same ends),
     )
 
 -- the file of a path could not be opened

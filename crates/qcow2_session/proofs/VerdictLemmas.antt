@@ -122,4 +122,4 @@ fine-PrintsChanges form header (Err fault) ran contents old new a b refused = (a
 pub fine-EndsApply : {O : Type 0} (ran : Result (Unit {0}) Fault) (form : ApplyForm) (edits : List DiskEdit) (header : HeaderRecord) (contents : O → OutputBytes) (old new : StorageState) (a b : O)
     → EndsApply form edits header (run_between contents ran old new a b) → EndsApply form edits header (run_between contents (fine_unless_failed ran) old new a b)
 fine-EndsApply ran form edits header contents old new a b (inl out) = inl (ap fine_unless_failed out.0, out.1, out.2)
-fine-EndsApply ran form edits header contents old new a b (inr (done, ends, reports, prints)) = inr (done, ends, reports, fine-PrintsChanges form header done ran contents old new a b prints)
+fine-EndsApply ran form edits header contents old new a b (inr (done, ends, end, reports, prints)) = inr (done, ends, end, reports, fine-PrintsChanges form header done ran contents old new a b prints)

@@ -1,21 +1,19 @@
 -- What does the command `apply` print, and what does it leave?
-use Rattle.std.specs.Prelude.{◌≡◌, ◌⊎◌, ℕ, ◌^◌, nat_lt, nat_le, Bool, true, false, not, ◌&&◌, if◌then◌else◌, List, [], ◌∷◌, ◌++◌, length, take, drop, map, Option, Some, None, option_map, Result, Err, MatchResult, bytes_eq, flat_map, codes}
-use Rattle.std.specs.List.{list_all, position}
+use Rattle.std.specs.Prelude.{◌≡◌, ◌⊎◌, ℕ, if◌then◌else◌, ◌^◌, nat_lt, nat_le, Bool, true, false, ◌&&◌, List, [], ◌∷◌, ◌++◌, length, take, drop, map, Option, Some, None, option_map, Result, Err, MatchResult, bytes_eq, flat_map, codes}
+use Rattle.std.specs.List.{list_all}
 use Rattle.std.specs.Char.{digit_value}
 use Rattle.std.specs.Fmt.{decimal}
-use Rattle.std.specs.Int.{div_ceil}
 use Rattle.std.specs.Str.Parse.{digits_value}
 use Rattle.qcow2_base.specs.Storage.{Image, OnImage, OnImages, StorageState}
 use Rattle.qcow2_base.specs.declared.fault.Fault.{Fault}
 use Rattle.qcow2_base.specs.declared.fault.Fault.TheVariants.{NoMemory}
-use Rattle.qcow2_check.specs.Failures.{ReportsFailures}
+use Rattle.qcow2_check.specs.Failures.{RefusesAs, ReportsFailures}
 use Rattle.qcow2_edits.specs.Edits.{cluster_numbers}
 use Rattle.qcow2_metadata.specs.Header.{HeaderRecord}
 use Rattle.qcow2_metadata.specs.Header.BitmapCount.{consistent_bitmaps}
 use Rattle.qcow2_metadata.specs.Results.{IsFromOutside}
 use Rattle.qcow2_apply.specs.Apply.{EditsDisk}
-use Rattle.qcow2_guest_edits.specs.GuestEdits.{guest_edit_fits}
-use Rattle.qcow2_apply.specs.Plan.{IsPlanOf, RefusesEdits}
+use Rattle.qcow2_apply.specs.Plan.{IsPlanOf, RefusesEdits, edits_within}
 use Rattle.qcow2_changes.specs.declared.changed_clusters.ChangedClusters.{ChangedClusters}
 use Rattle.qcow2_changes.specs.declared.changed_clusters.KeptCluster.{KeptCluster}
 use Rattle.qcow2_guest_edits.specs.declared.guest_edits.GuestEdit.{GuestEdit}
@@ -96,21 +94,6 @@ guest_edit cluster_size (DiscardCluster offset) = Discard offset cluster_size
 abbrev pub guest_edits : HeaderRecord → List DiskEdit → List GuestEdit
 guest_edits header edits = map (guest_edit (2 ^ header.v2.cluster_bits)) edits
 
--- whether the cluster that an edit maps, if it does, is one of those of an image of this length, whose last may be cut
-abbrev pub maps_within : ℕ → ℕ → GuestEdit → Bool
-maps_within len cb (Map offset host_cluster) = nat_lt host_cluster.0 (div_ceil len (2 ^ cb))
-maps_within len cb (Zero offset length keep_allocation) = true
-maps_within len cb (Discard offset length) = true
-
--- whether an edit fits the disk of this header, and its image of this length
-abbrev pub fits_within : ℕ → HeaderRecord → DiskEdit → Bool
-fits_within len header edit = let of_disk = guest_edit (2 ^ header.v2.cluster_bits) edit in
-    guest_edit_fits header of_disk && maps_within len header.v2.cluster_bits of_disk
-
--- the position of the first edit that doesn't
-abbrev pub first_unfit_within : ℕ → HeaderRecord → List DiskEdit → Option ℕ
-first_unfit_within len header edits = position (λ edit. not (fits_within len header edit)) edits
-
 -- the line of a cluster that lost a reference and has others: with its counter
 abbrev pub kept_line : KeptCluster → List ℕ
 kept_line kept = codes "kept " ++ decimal kept.cluster.0 ++ codes " " ++ decimal kept.counter ++ codes "\n"
@@ -157,11 +140,12 @@ abbrev pub EndsEdits : ApplyForm → HeaderRecord → List GuestEdit → Result 
 EndsEdits Make header edits done old new = (left : HeaderRecord) × OnImages old new (EditsDisk header left edits done)
 EndsEdits Plan header edits done old new = OnImage old (PlansEdits header edits done)
 
--- how a run of edits of a disk ends, by its form: they were made or planned, or refused, by the storage fault exactly where a
--- call of the image failed, and this was printed
+-- how a run of edits of a disk ends, by its form: they were made or planned, or refused, first by the image's end, and by the
+-- storage fault exactly where a call of the image failed. This was printed
 abbrev pub EndsApply : {A O : Type 0} → ApplyForm → List DiskEdit → HeaderRecord → Run A O → Type 0
 EndsApply form edits header run = RunsOut run ⊎ ((done : Result ChangedClusters Fault)
     × EndsEdits form header (guest_edits header edits) done run.old run.new
+    × OnImage run.old (λ bytes. RefusesAs (edits_within header (guest_edits header edits) run.old.len bytes) done)
     × ReportsFailures done run.old run.new × PrintsChanges form header done run)
 
 -- the facts of the command `apply`

@@ -13,7 +13,9 @@ use Rattle.qcow2_check.specs.Totals.{totals_on, verdict_in}
 use Rattle.qcow2_check.specs.Uses.{ImageTables}
 use Rattle.qcow2_metadata.specs.Header.{HeaderRecord}
 use Rattle.qcow2_metadata.specs.Results.{IsFromOutside, result_map}
+use Rattle.qcow2_repair.specs.Refusals.{repair_within}
 use Rattle.qcow2_repair.specs.Repair.{RepairsImage}
+use Rattle.qcow2_check.specs.Failures.{RefusesAs}
 use Rattle.qcow2_session.specs.Commands.Check.Json.{checked_object}
 use Rattle.qcow2_session.specs.Commands.Check.Lines.{end_lines, flag_line, run_lines}
 use Rattle.qcow2_session.specs.Commands.Check.Runs.{runs_of}
@@ -91,7 +93,8 @@ Checks header run = PrintsReport run (checked_report header) × ReadsFor (IsErrO
 -- checked, so a fault then is from outside. Or the repair was refused, before anything was printed
 abbrev pub RepairsAndChecks : {O : Type 0} → HeaderRecord → Run Verdict O → Type 0
 RepairsAndChecks header run = (repaired : Result HeaderRecord Fault) × (left : StorageState)
-    × RepairsImage header repaired run.old left × MatchResult repaired
+    × RepairsImage header repaired run.old left
+    × OnImage run.old (λ bytes. RefusesAs (repair_within header run.old.len bytes) repaired) × MatchResult repaired
     (λ written. Checks written (record run { old = left }) × IfErr run.answer (λ fault. OnImage run.old (λ _. IsFromOutside fault)))
     (λ fault. (run.answer ≡ Err fault) × (run.new ≡ left) × (run.after ≡ run.before))
 

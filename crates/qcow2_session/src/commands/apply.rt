@@ -1,10 +1,11 @@
 //! The command `apply`: edits of ranges of the guest's disk, with the counters of clusters.
 
-ghost use Rattle.std.specs.Prelude.{◌≡◌, ◌++◌, IfOk, false, map, not, string_bytes};
+ghost use Rattle.std.specs.Prelude.{◌≡◌, ◌++◌, IfOk, false, map, string_bytes};
 ghost use Rattle.qcow2_base.specs.Storage.{OnImage, OnImages, OnlyReads};
 ghost use Rattle.qcow2_metadata.specs.Header.{HeaderRecord};
-ghost use Rattle.qcow2_check.specs.Failures.{ReportsFailures};
+ghost use Rattle.qcow2_check.specs.Failures.{RefusesAs, ReportsFailures};
 ghost use Rattle.qcow2_apply.specs.Apply.{EditsDisk};
+ghost use Rattle.qcow2_apply.specs.Plan.{edits_within};
 ghost use Rattle.qcow2_session.specs.Commands.Apply as spec;
 ghost use Rattle.qcow2_session.specs.Commands.Apply.{EndsApply, EndsEdits, PlansEdits, makes_edits};
 ghost use Rattle.qcow2_session.specs.Commands.Printing.{PrintsLast, PrintsText, run_over};
@@ -14,7 +15,7 @@ use super::Command;
 use super::words::{Arguments, FromWord, number, parts};
 use crate::lines::{LineBuffer, ToLine, print, print_lines};
 use qcow2_apply::{ChangedClusters, GuestEdit, KeptCluster, Plan, apply_edits};
-use qcow2_base::{Device, Fault, GuestOffset, HostCluster, Storage};
+use qcow2_base::{Device, Fault, GuestOffset, HostCluster};
 use qcow2_metadata::Header;
 use std::alloc::{AllocError, Global};
 use std::io::Write;
@@ -48,23 +49,6 @@ impl DiskEdit {
                 offset,
                 length: cluster_size as u64,
             },
-        }
-    }
-
-    // Whether it fits the disk of an image with this header and this length in bytes, and a cluster that it
-    // maps begins before the image's end.
-    fn fits_within(&self, header: &Header, len: u64) -> bool
-        ensures { result ≡ spec.fits_within len header.now self.now }
-    {
-        let edit = self.guest_edit(header.cluster_size());
-        if !edit.fits(header) {
-            return false;
-        }
-        match edit {
-            GuestEdit::Map { host_cluster, .. } => {
-                host_cluster.0 < len.div_ceil(1 << header.cluster_bits())
-            }
-            GuestEdit::Zero { .. } | GuestEdit::Discard { .. } => true,
         }
     }
 }
@@ -115,6 +99,8 @@ fn changed_clusters<S: Device>(
     edits: &[GuestEdit],
 ) -> Result<ChangedClusters, Fault>
     ensures edits { EndsEdits form header edits.now result (S.state image.old) (S.state image.new) }
+    ensures end { OnImage (S.state image.old) (λ bytes.
+        RefusesAs (edits_within header edits.now (S.state image.old).len bytes) result) }
     ensures storage { ReportsFailures result (S.state image.old) (S.state image.new) }
     ensures unchanged { makes_edits form ≡ false →
         (S.state image.new).byte_at ≡ (S.state image.old).byte_at }
@@ -134,6 +120,8 @@ fn made_clusters<S: Device>(
 ) -> Result<ChangedClusters, Fault>
     ensures edits { (left : HeaderRecord) × OnImages (S.state image.old) (S.state image.new)
         (EditsDisk header left edits.now result) }
+    ensures end { OnImage (S.state image.old) (λ bytes.
+        RefusesAs (edits_within header edits.now (S.state image.old).len bytes) result) }
     ensures storage { ReportsFailures result (S.state image.old) (S.state image.new) }
 {
     let mut header = header;
@@ -141,33 +129,19 @@ fn made_clusters<S: Device>(
 }
 
 // The same where they are planned.
-fn planned_clusters<S: Storage>(
+fn planned_clusters<S: Device>(
     alloc: Global,
     image: &mut S,
     header: &Header,
     edits: &[GuestEdit],
 ) -> Result<ChangedClusters, Fault>
     ensures edits { OnImage (S.state image.old) (PlansEdits header.now edits.now result) }
+    ensures end { OnImage (S.state image.old) (λ bytes.
+        RefusesAs (edits_within header.now edits.now (S.state image.old).len bytes) result) }
     ensures storage { OnlyReads result (S.state image.old) (S.state image.new) }
 {
     let plan = Plan::new(alloc, image, header, edits)?;
     Ok(plan.clusters)
-}
-
-/// The position of the first edit that doesn't fit the disk of an image with this header and this length in
-/// bytes, or maps a cluster past the image's end, if there is one.
-pub(super) fn first_unfit_within(
-    header: &Header,
-    edits: &[DiskEdit],
-    len: u64,
-) -> Option<usize>
-    ensures { result ≡ spec.first_unfit_within len header.now edits.now }
-{
-    edits.iter().position(
-        |edit: &DiskEdit| -> bool
-            ensures { result ≡ not (spec.fits_within len header.entry.now edit.now) }
-        { !edit.fits_within(header, len) },
-    )
 }
 
 // The edits that some are of a disk of this header.

@@ -2,25 +2,23 @@
 
 ghost use Rattle.std.specs.Prelude.{◌≡◌, ◌≤◌, ◌↔◌, None, Ok, Err, false, map, string_bytes, IsErr, IsOkUnless, IfOk, IfSome, OnErr, OnOk, MatchResult};
 ghost use Rattle.std.specs.Io.KnownBytes.{Keeps};
-ghost use Rattle.qcow2_base.specs.Storage.{OnlyReads};
 ghost use Rattle.qcow2_base.specs.Storage.File.{file_state};
 ghost use Rattle.qcow2_base.specs.Storage.ImageFiles.{ChangesOne};
 ghost use Rattle.qcow2_base.specs.declared.fault.Fault.TheVariants.{Storage as StorageFailed};
 ghost use Rattle.qcow2_check.specs.Verdict.{status_of_verdict};
 ghost use Rattle.qcow2_check.specs.declared.verdict.Verdict.TheVariants.{Fine};
-ghost use Rattle.qcow2_metadata.specs.Results.{Reads};
 ghost use Rattle.qcow2_session.specs.Commands.{AskForNothing, command_by_name, command_of, facts_of, image_name};
 ghost use Rattle.qcow2_session.specs.Commands.Explain.{PrintsExplained, explained_text};
 ghost use Rattle.qcow2_session.specs.Commands.Help.{PrintsAsked, asked_text, text_of};
 ghost use Rattle.qcow2_session.specs.Commands.Printing.{AppendsPart, PrintsLast, run_over};
 ghost use Rattle.qcow2_session.specs.Commands.Report.{Reports, fault_line};
-ghost use Rattle.qcow2_session.specs.Commands.RunningOnFiles.{ComparesWithEnd, IsEditsEndFault, IsRepairEndFault, RunsOnFile, RunsWords, StopsOrEnds, edits_within, repair_within, told_beside};
+ghost use Rattle.qcow2_session.specs.Commands.RunningOnFiles.{RunsOnFile, RunsWords, StopsOrEnds, told_beside};
 ghost use Rattle.qcow2_session.specs.Commands.Running.{AfterHeader, EndsAndFlushes, FindsHeader, IsHeaderFor, Runs, fine_unless_failed};
 
 use super::Command;
-use super::apply::{DiskEdit, edit_disk, first_unfit_within};
+use super::apply::edit_disk;
 use super::at::print_mapping_at;
-use super::check::{CheckForm, check_in_form};
+use super::check::check_in_form;
 use super::count::count_and_wait;
 use super::edit::edit_and_wait;
 use super::explain::Question;
@@ -36,9 +34,8 @@ use super::tables::print_tables;
 use crate::lines::print;
 use qcow2_base::{Device, Fault, FileStorage, ImageFile, ImageFiles, Storage};
 use qcow2_buffered::BufferedStorage;
-use qcow2_check::{Verdict, refuse_short_l1};
+use qcow2_check::Verdict;
 use qcow2_metadata::Header;
-use qcow2_repair::{refuse_tables_past_end, refuse_unrepairable};
 use std::alloc::Global;
 use std::io;
 use std::io::Write;
@@ -204,14 +201,10 @@ fn status_of<E: Write>(ran: Result<Verdict, Fault>, err: &mut E) -> u8
 /// Opens the image of a path, for writing where the command may change it, runs the command over it, and
 /// closes it. What it prints is flushed, also before a fault. One that reads all tables reads them in pages.
 ///
-/// Returns 34 where the file can't be opened; 35 where memory runs out for the pages. A repair returns what
-/// `refuse_unrepairable` and `refuse_tables_past_end` do. `apply` returns 41 where the L1 table is too short,
-/// and if the image has the data 32 and the position of the first edit that doesn't fit the disk or maps a
-/// cluster past the image's end, and then what `refuse_tables_past_end` does. A regular file and a block
-/// device have an end. After these nothing is printed, and the file is as it was, but for what
-/// the load of the header wrote. Else it returns what `run` does, and 34 where the flush fails. No other
-/// file changes, unless it is the same one. Where `files` say that another program came to the image, 39
-/// comes in place of 34: a part of what was asked may be done then.
+/// Returns 34 where the file can't be opened, and 35 where memory runs out for the pages, before anything is
+/// printed. Else it returns what `run` does, and 34 where the flush fails. No other file changes, unless it
+/// is the same one. Where `files` say that another program came to the image, 39 comes in place of 34: a part
+/// of what was asked may be done then.
 pub fn run_on_file<R: ImageFiles, O: Write>(
     alloc: Global,
     files: &mut R,
@@ -262,9 +255,6 @@ fn run_in_file<F: ImageFile, O: Write>(
         Ok(header) => header,
         Err(fault) => return (image, Err(fault)),
     };
-    if let Err(fault) = compare_with_end(alloc, &mut image, &header, command) {
-        return (image, Err(fault));
-    }
     if !command.reads_all_tables() {
         let ran = run_and_flush(alloc, &mut image, header, command, out);
         return (image, ran);
@@ -276,65 +266,6 @@ fn run_in_file<F: ImageFile, O: Write>(
         }
         Err(image) => (image, Err(Fault::NoMemory)),
     }
-}
-
-// Refuses a command that doesn't go with where the image ends, if that is known.
-fn compare_with_end<S: Device>(
-    alloc: Global,
-    image: &mut S,
-    header: &Header,
-    command: &Command,
-) -> Result<(), Fault>
-    ensures compares { ComparesWithEnd command.now header.now (S.state image.old) result }
-    ensures reads { OnlyReads result (S.state image.old) (S.state image.new) }
-{
-    match command {
-        Command::Apply { edits, .. } => {
-            refuse_edits_past_end(alloc, image, header, edits.as_slice())
-        }
-        Command::Check {
-            form: CheckForm::Repair,
-        } => refuse_repair_past_end(alloc, image, header),
-        _ => Ok(()),
-    }
-}
-
-// Refuses edits of a disk: by 41 where the L1 table is too short, by 32 and the position of the first edit
-// that doesn't fit the disk or maps a cluster past the image's end, or by the faults of tables past the end.
-// With an external data file the edits are refused later.
-fn refuse_edits_past_end<S: Device>(
-    alloc: Global,
-    image: &mut S,
-    header: &Header,
-    edits: &[DiskEdit],
-) -> Result<(), Fault>
-    ensures reads { Reads (λ done. done) result (edits_within edits.now header.now (S.state image.old).len)
-        (IsEditsEndFault edits.now header.now) (S.state image.old) (S.state image.new) }
-{
-    refuse_short_l1(header)?;
-    if header.external_data_file() {
-        return Ok(());
-    }
-    let Some(len) = image.len()? else {
-        return Ok(());
-    };
-    if let Some(position) = first_unfit_within(header, edits, len) {
-        return Err(Fault::BadEdit(position));
-    }
-    refuse_tables_past_end(alloc, image, header)
-}
-
-// Refuses a repair: by 37 or 41 for what the header says, or by the faults of tables past the image's end.
-fn refuse_repair_past_end<S: Device>(
-    alloc: Global,
-    image: &mut S,
-    header: &Header,
-) -> Result<(), Fault>
-    ensures reads { Reads (λ done. done) result (repair_within header.now (S.state image.old).len)
-        (IsRepairEndFault header.now) (S.state image.old) (S.state image.new) }
-{
-    refuse_unrepairable(header)?;
-    refuse_tables_past_end(alloc, image, header)
 }
 
 // Runs a command over an image with its header, and flushes what it printed, also before a fault.

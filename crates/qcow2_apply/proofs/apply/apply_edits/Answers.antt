@@ -2,9 +2,11 @@ use Rattle.std.proofs.Common.{◌≡◌, IsTrue, Ok, Err, refl, subst, sym, arit
 use Rattle.std.proofs.lemmas.Bool.Decides.{nat_tests}
 use Rattle.std.proofs.lemmas.Result.{err_from_is_err_and}
 use Rattle.qcow2_base.specs.Storage.{SameDevice}
+use Rattle.qcow2_check.proofs.FailuresLemmas.{refuses-no-more}
 use Rattle.qcow2_apply.proofs.ApplyLemmas.{reports-fault, reports-then, reports-value}
 use Rattle.qcow2_apply.specs.Apply.{FollowsPlan, Makes, Refuses}
 use Rattle.qcow2_apply.specs.Plan.{IsPlanOf}
+use Rattle.qcow2_changes.specs.declared.changed_clusters.ChangedClusters.{ChangedClusters}
 use Rattle.qcow2_apply.proofs.apply.apply_edits.Goals as goal
 
 pub returns-in_err-plan-clause-edited : goal.returns-in_err-plan-clause-edited
@@ -62,3 +64,19 @@ returns-clause-storage g c =
     let device : SameDevice before read = search rules in
     let first : read.failures ≡ before.failures = grind (arith, nat_tests, c.in_ok-plan.ensures.storage) in
     reports-value (tt {0}) c.in_ok-plan.plan.clusters before after (reports-then (Ok tt) before read after first device c.in_ok-carry_out.ensures.storage)
+
+pub returns-in_err-plan-clause-end : goal.returns-in_err-plan-clause-end
+returns-in_err-plan-clause-end g c =
+    let exit = err_from_is_err_and c.from_residual.result c.from_residual.ensures.1 in
+    rw (exit.1, exit.2) c.in_err-plan.ensures.end
+
+pub returns-in_err-workspace-clause-end : goal.returns-in_err-workspace-clause-end
+returns-in_err-workspace-clause-end g c = λ told. refuses-no-more _ c.in_ok-plan.plan _ (c.in_ok-plan.ensures.end told)
+
+pub returns-in_err-carry_out-clause-end : goal.returns-in_err-carry_out-clause-end
+returns-in_err-carry_out-clause-end g c = λ told. refuses-no-more _ c.in_ok-plan.plan _ (c.in_ok-plan.ensures.end told)
+
+pub returns-clause-end : goal.returns-clause-end
+returns-clause-end g c = λ told.
+    let clusters = c.in_ok-plan.plan.clusters in
+    refuses-no-more {U = ChangedClusters} _ c.in_ok-plan.plan (Ok clusters) (c.in_ok-plan.ensures.end told)

@@ -1,6 +1,6 @@
 use Rattle.std.proofs.Common.{take}
 use Rattle.qcow2_check.specs.Walk.{table_list, list_from}
-use Rattle.qcow2_check.proofs.walk.take_l2_tables.Given as goal
+use Rattle.qcow2_check.proofs.walk.walk_l2_tables.Given as goal
 
 -- the L2 tables that the entries before this one name are taken
 abbrev pub invariant-loop-index : goal.invariant-loop-index

@@ -1,7 +1,7 @@
 use Rattle.std.proofs.Common.{◌≡◌, [], ◌∷◌, OnOk, rules}
 use Rattle.qcow2_check.proofs.SinkLemmas.{takes_after}
 use Rattle.qcow2_check.specs.Walk.{header_list}
-use Rattle.qcow2_check.proofs.walk.take_header.Goals as goal
+use Rattle.qcow2_check.proofs.walk.walk_header.Goals as goal
 
 pub returns-clause-taken : goal.returns-clause-taken
 returns-clause-taken g c =

@@ -2,7 +2,7 @@ use Rattle.std.proofs.Common.{rules}
 use Rattle.std.proofs.Math.Nat.{zero-add}
 use Rattle.qcow2_check.proofs.SinkLemmas.{takes_next}
 use Rattle.qcow2_check.specs.Walk.{block_list}
-use Rattle.qcow2_check.proofs.walk.take_blocks.Goals as goal
+use Rattle.qcow2_check.proofs.walk.walk_blocks.Goals as goal
 
 pub loop-index-preserved : goal.loop-index-preserved
 loop-index-preserved g c =
