@@ -20,27 +20,27 @@ use Rattle.qcow2_check.specs.NamedTables.{loaded_l1_table, named_cluster}
 use Rattle.qcow2_check.specs.Failures.{ReportsFailures}
 use Rattle.qcow2_check.specs.Uses.{ImageTables, image_tables}
 use Rattle.qcow2_apply.proofs.BlocksLemmas as of-blocks
-use Rattle.qcow2_changes.proofs.CounterTablesLemmas.{block-of, counter-here}
-use Rattle.qcow2_guest_edits.proofs.GuestEditsLemmas.{no-edits-in}
+use Rattle.qcow2_apply.proofs.CounterTablesLemmas.{block-of, counter-here}
+use Rattle.qcow2_apply.proofs.GuestEditsLemmas.{no-edits-in}
 use Rattle.qcow2_apply.proofs.PlannedTablesLemmas.{none-refused-at}
-use Rattle.qcow2_guest_edits.proofs.TablesLemmas as of-tables
-use Rattle.qcow2_guest_edits.proofs.TablesLemmas.{named-below}
+use Rattle.qcow2_apply.proofs.TablesLemmas as of-tables
+use Rattle.qcow2_apply.proofs.TablesLemmas.{named-below}
 use Rattle.qcow2_apply.specs.Apply.{Applies, AreAllApart, BreaksOffApplying, CanBeMade, FollowsPlan, InGains, InLosses, InTables, IsElsewhere, LeavesHeader, l2_tables_of, plan_tables, refblocks_of}
-use Rattle.qcow2_changes.specs.CounterTables.{CounterTablesState, HasCounter, counter_of_cluster}
+use Rattle.qcow2_apply.specs.CounterTables.{CounterTablesState, HasCounter, counter_of_cluster}
 use Rattle.qcow2_apply.specs.Blocks.{FollowsChanges, SomeIsStuck, StopsFollowing}
-use Rattle.qcow2_guest_edits.specs.GuestEdits.{has_clusters_in, edits_refusal}
-use Rattle.qcow2_changes.specs.Changes.{gains_of, losses_of}
-use Rattle.qcow2_guest_edits.specs.Passes.{IsOutside, PassBreaksOff, Passes}
+use Rattle.qcow2_apply.specs.GuestEdits.{has_clusters_in, edits_refusal}
+use Rattle.qcow2_apply.specs.Changes.{gains_of, losses_of}
+use Rattle.qcow2_apply.specs.Passes.{IsOutside, PassBreaksOff, Passes}
 use Rattle.qcow2_apply.specs.Plan.{IsPlanOf, planned_tables}
 use Rattle.qcow2_apply.specs.declared.plan.Plan.{Plan}
 use Rattle.qcow2_base.specs.OnDiskStruct.{big}
 use Rattle.qcow2_metadata.specs.Header.Pointers.{HoldsBetween, cleared_fields}
 use Rattle.qcow2_metadata.specs.Header.Open.{without_autoclear}
-use Rattle.qcow2_changes.specs.PlannedChanges.{AreSorted, CannotCount}
+use Rattle.qcow2_apply.specs.PlannedChanges.{AreSorted, CannotCount}
 use Rattle.qcow2_apply.specs.PlannedTables.{alone_fault, counter_tables, load_fault, mappings_fault, table_refusal, tables_refusal}
-use Rattle.qcow2_guest_edits.specs.Tables.{FirstFails, IsEdited}
-use Rattle.qcow2_changes.specs.declared.changes.Changes.{Changes}
-use Rattle.qcow2_guest_edits.specs.declared.guest_edits.GuestEdit.{GuestEdit}
+use Rattle.qcow2_apply.specs.Tables.{FirstFails, IsEdited}
+use Rattle.qcow2_apply.specs.declared.changes.Changes.{Changes}
+use Rattle.qcow2_apply.specs.declared.guest_edits.GuestEdit.{GuestEdit}
 
 -- the L1 table of tables that edits are made by is the image's, and none of them is refused
 pub are-planned : (header : HeaderRecord) (edits : List GuestEdit) (image : Image) (tables : ImageTables) → planned_tables header edits image ≡ Ok tables

@@ -8,13 +8,13 @@ use Rattle.qcow2_metadata.proofs.PackingLemmas.{counters_at-length, counters_at-
 use Rattle.qcow2_metadata.proofs.RefblockLemmas.{block_bytes}
 use Rattle.qcow2_metadata.specs.Refblock.{block_entries}
 use Rattle.qcow2_check.specs.Counters.{counters_each}
-use Rattle.qcow2_changes.proofs.CounterTablesLemmas.{block-of, counter-at, counter-here, idle-counters}
-use Rattle.qcow2_guest_edits.proofs.PassesLemmas.{AreOfClusters}
-use Rattle.qcow2_changes.specs.CounterTables.{BlockFollows, BlockIsStuck, CounterTablesState, Follows, IsByBlocks, NamesBlock, counter_of_cluster, block_numbers}
+use Rattle.qcow2_apply.proofs.CounterTablesLemmas.{block-of, counter-at, counter-here, idle-counters}
+use Rattle.qcow2_apply.proofs.PassesLemmas.{AreOfClusters}
+use Rattle.qcow2_apply.specs.CounterTables.{BlockFollows, BlockIsStuck, CounterTablesState, Follows, IsByBlocks, NamesBlock, counter_of_cluster, block_numbers}
 use Rattle.qcow2_apply.specs.Blocks.{FollowsChanges, IsStuckAt, SomeIsStuck, StopsFollowing, blocks}
-use Rattle.qcow2_changes.specs.Changes.{IsOutcomeOf}
-use Rattle.qcow2_changes.specs.declared.changes.Changes.{Changes}
-use Rattle.qcow2_guest_edits.specs.Passes.{PassBreaksOff, Passes, PassesBefore}
+use Rattle.qcow2_apply.specs.Changes.{IsOutcomeOf}
+use Rattle.qcow2_apply.specs.declared.changes.Changes.{Changes}
+use Rattle.qcow2_apply.specs.Passes.{PassBreaksOff, Passes, PassesBefore}
 
 -- the counters of a block are those of its cluster's bytes
 pub are-of-clusters : (tables : CounterTablesState) → IsClusterBits tables.header.v2.cluster_bits → tables.header.base.refcount_order ≤ 6

@@ -12,14 +12,14 @@ use Rattle.qcow2_check.specs.Uses.{ImageTables}
 use Rattle.qcow2_metadata.proofs.TableLemmas.{first_fault-append, first_fault_more}
 use Rattle.qcow2_metadata.specs.Results.{unless_refused}
 use Rattle.qcow2_metadata.specs.Table.{first_fault}
-use Rattle.qcow2_guest_edits.proofs.EditsByTableLemmas.{first-kept}
-use Rattle.qcow2_guest_edits.proofs.NeededTablesLemmas.{needed-any}
+use Rattle.qcow2_apply.proofs.EditsByTableLemmas.{first-kept}
+use Rattle.qcow2_apply.proofs.NeededTablesLemmas.{needed-any}
 use Rattle.qcow2_apply.proofs.PlannedTablesLemmas.{first-refused, more-refused, unless-none, unless-some}
-use Rattle.qcow2_guest_edits.specs.EditsByTable.{is_of_table, is_one_in, positions_in}
-use Rattle.qcow2_guest_edits.specs.GuestEdits.{has_clusters_in}
+use Rattle.qcow2_apply.specs.EditsByTable.{is_of_table, is_one_in, positions_in}
+use Rattle.qcow2_apply.specs.GuestEdits.{has_clusters_in}
 use Rattle.qcow2_apply.specs.PlannedTables.{mapping_fault, mapping_fault_in, mappings_fault, named_table_refusal, table_refusal}
-use Rattle.qcow2_guest_edits.specs.NeededTables.{IsFirstMissing, is_table_needed}
-use Rattle.qcow2_guest_edits.specs.declared.guest_edits.GuestEdit.{GuestEdit}
+use Rattle.qcow2_apply.specs.NeededTables.{IsFirstMissing, is_table_needed}
+use Rattle.qcow2_apply.specs.declared.guest_edits.GuestEdit.{GuestEdit}
 
 -- where nothing is refused at the numbers of a list before one, and it isn't, nothing is before the next
 pub taken-none-next : (refusal : ℕ → Option Fault) (ns : List ℕ) (k d : ℕ) (found : Option Fault) → k < length ns → first_fault refusal (take k ns) ≡ None

@@ -9,15 +9,15 @@ use Rattle.qcow2_check.specs.Counters.{block_of_cluster, placed_reftable}
 use Rattle.qcow2_check.specs.NamedTables.{loaded_l1_table}
 use Rattle.qcow2_check.specs.Uses.{image_tables}
 use Rattle.qcow2_apply.proofs.PlannedTablesLemmas.{unless-none, unless-some}
-use Rattle.qcow2_changes.specs.ChangedClusters.{ListsChanges}
+use Rattle.qcow2_apply.specs.ChangedClusters.{ListsChanges}
 use Rattle.qcow2_apply.specs.Plan.{AreRead, ByCounters, ByTables, Counter, IsPlanOf, NoCounter, RefusesEdits, planned_tables}
-use Rattle.qcow2_guest_edits.specs.GuestEdits.{edits_refusal}
-use Rattle.qcow2_changes.specs.PlannedChanges.{CannotCount, SomeIsUncounted}
+use Rattle.qcow2_apply.specs.GuestEdits.{edits_refusal}
+use Rattle.qcow2_apply.specs.PlannedChanges.{CannotCount, SomeIsUncounted}
 use Rattle.qcow2_apply.specs.PlannedTables.{ComesTo, IsPlanned, lost_before, tables_refusal}
-use Rattle.qcow2_changes.specs.declared.changed_clusters.ChangedClusters.{ChangedClusters}
-use Rattle.qcow2_guest_edits.specs.declared.edits_by_table.EditsByTable.{EditsByTable}
-use Rattle.qcow2_guest_edits.specs.declared.guest_edits.GuestEdit.{GuestEdit}
-use Rattle.qcow2_changes.specs.declared.planned_changes.PlannedChanges.{PlannedChanges}
+use Rattle.qcow2_apply.specs.declared.changed_clusters.ChangedClusters.{ChangedClusters}
+use Rattle.qcow2_apply.specs.declared.edits_by_table.EditsByTable.{EditsByTable}
+use Rattle.qcow2_apply.specs.declared.guest_edits.GuestEdit.{GuestEdit}
+use Rattle.qcow2_apply.specs.declared.planned_changes.PlannedChanges.{PlannedChanges}
 
 -- then those decide
 planned-then : (header : HeaderRecord) (edits : List GuestEdit) (image : Image) (l1 reftable : List ℕ) → AreRead header edits image l1 reftable

@@ -14,15 +14,15 @@ use Rattle.qcow2_metadata.specs.Placed.{numbers_at}
 use Rattle.qcow2_metadata.specs.Table.L2Guards.{RunEnd, handed_back, times_gained}
 use Rattle.qcow2_metadata.specs.declared.entries.ClustersToFreeEntry.{ClustersToFreeEntry}
 use Rattle.qcow2_check.specs.NamedTables.{named_cluster}
-use Rattle.qcow2_guest_edits.proofs.GuestEditsLemmas.{range-split}
+use Rattle.qcow2_apply.proofs.GuestEditsLemmas.{range-split}
 use Rattle.qcow2_check.specs.Uses.{ImageTables, image_tables}
-use Rattle.qcow2_changes.specs.Changes.{HasNone}
-use Rattle.qcow2_guest_edits.specs.GuestEdits.{edits_in}
-use Rattle.qcow2_changes.specs.PlannedChanges.{AddsOutcome, HaveCounters}
+use Rattle.qcow2_apply.specs.Changes.{HasNone}
+use Rattle.qcow2_apply.specs.GuestEdits.{edits_in}
+use Rattle.qcow2_apply.specs.PlannedChanges.{AddsOutcome, HaveCounters}
 use Rattle.qcow2_apply.specs.PlannedTables.{AddsTable, AreSources, IsPlanned, gained_at, lost_at, mapping_fault_in, planning_tables, run_at, run_gains, run_losses, table_refusal}
-use Rattle.qcow2_guest_edits.specs.Tables.{ComesToOutcome, run_in}
-use Rattle.qcow2_guest_edits.specs.declared.guest_edits.GuestEdit.{GuestEdit}
-use Rattle.qcow2_changes.specs.declared.planned_changes.PlannedChanges.{PlannedChanges}
+use Rattle.qcow2_apply.specs.Tables.{ComesToOutcome, run_in}
+use Rattle.qcow2_apply.specs.declared.guest_edits.GuestEdit.{GuestEdit}
+use Rattle.qcow2_apply.specs.declared.planned_changes.PlannedChanges.{PlannedChanges}
 use Rattle.qcow2_apply.specs.declared.planned_tables.Sources.{Sources}
 use Rattle.qcow2_base.specs.declared.fault.Fault.{Fault}
 use Rattle.qcow2_base.specs.declared.fault.Fault.TheVariants.{NoMemory, Storage}

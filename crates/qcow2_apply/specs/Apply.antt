@@ -7,21 +7,21 @@ use Rattle.qcow2_base.specs.declared.types.HostCluster.{HostCluster}
 use Rattle.qcow2_check.specs.Uses.{ImageTables, image_tables, image_uses, uses_of}
 use Rattle.qcow2_metadata.specs.Header.{HeaderRecord}
 use Rattle.qcow2_apply.specs.Blocks.{FollowsChanges, StopsFollowing, blocks}
-use Rattle.qcow2_changes.specs.CounterTables.{HasCounter, counter_of_cluster}
-use Rattle.qcow2_guest_edits.specs.Passes.{ArePlacesApart, IsOutside, PassBreaksOff, Passes, Places, TearsOne}
+use Rattle.qcow2_apply.specs.CounterTables.{HasCounter, counter_of_cluster}
+use Rattle.qcow2_apply.specs.Passes.{ArePlacesApart, IsOutside, PassBreaksOff, Passes, Places, TearsOne}
 use Rattle.qcow2_metadata.specs.Results.{IsFromOutside, result_map}
 use Rattle.qcow2_apply.specs.Plan.{IsPlanFor, IsPlanOf, RefusesEdits}
 use Rattle.qcow2_metadata.specs.Header.Open.{without_autoclear}
 use Rattle.qcow2_metadata.specs.Header.Pointers.{HasNameElsewhere}
 use Rattle.qcow2_metadata.specs.Refblock.{block_geometry_of}
-use Rattle.qcow2_changes.specs.PlannedChanges.{CannotCount}
+use Rattle.qcow2_apply.specs.PlannedChanges.{CannotCount}
 use Rattle.qcow2_apply.specs.PlannedTables.{counter_tables, tables_refusal}
 use Rattle.qcow2_apply.specs.declared.plan.Plan.{Plan}
-use Rattle.qcow2_guest_edits.specs.Tables.{IsEdited, IsL2TableOf, l2_tables}
+use Rattle.qcow2_apply.specs.Tables.{IsEdited, IsL2TableOf, l2_tables}
 use Rattle.qcow2_apply.specs.declared.apply.Workspace.{Workspace}
-use Rattle.qcow2_changes.specs.declared.changed_clusters.ChangedClusters.{ChangedClusters}
-use Rattle.qcow2_changes.specs.declared.changes.Changes.{Changes}
-use Rattle.qcow2_guest_edits.specs.declared.guest_edits.GuestEdit.{GuestEdit}
+use Rattle.qcow2_apply.specs.declared.changed_clusters.ChangedClusters.{ChangedClusters}
+use Rattle.qcow2_apply.specs.declared.changes.Changes.{Changes}
+use Rattle.qcow2_apply.specs.declared.guest_edits.GuestEdit.{GuestEdit}
 
 -- the L2 tables and the refcount blocks of an image with these tables
 abbrev pub l2_tables_of : ImageTables → Places

@@ -5,9 +5,9 @@ use Rattle.qcow2_base.specs.declared.fault.Fault.{Fault}
 use Rattle.qcow2_base.specs.declared.types.HostCluster.{HostCluster}
 use Rattle.qcow2_check.specs.NamedTables.{named_block}
 use Rattle.qcow2_check.specs.Failures.{TearsAtMost}
-use Rattle.qcow2_changes.specs.CounterTables.{BlockIsStuck, CounterTablesState, Follows, HasCounter, IsStuck, NamesBlock, block_numbers, counter_of_cluster}
-use Rattle.qcow2_changes.specs.declared.changes.Changes.{Changes}
-use Rattle.qcow2_guest_edits.specs.Passes.{IsOutside, Places, TearsOne}
+use Rattle.qcow2_apply.specs.CounterTables.{BlockIsStuck, CounterTablesState, Follows, HasCounter, IsStuck, NamesBlock, block_numbers, counter_of_cluster}
+use Rattle.qcow2_apply.specs.declared.changes.Changes.{Changes}
+use Rattle.qcow2_apply.specs.Passes.{IsOutside, Places, TearsOne}
 
 -- the block at an index has such a counter
 abbrev pub IsStuckAt : CounterTablesState → Changes → ℕ → Image → Type 0

@@ -1,4 +1,16 @@
 pub mod Apply
 pub mod Blocks
+pub mod ChangedClusters
+pub mod Changes
+pub mod CounterTables
+pub mod Crashes
+pub mod EditsByTable
+pub mod Errors
+pub mod GuestEdits
+pub mod MappedClusters
+pub mod NeededTables
+pub mod Passes
 pub mod Plan
+pub mod PlannedChanges
 pub mod PlannedTables
+pub mod Tables

@@ -1,5 +1,5 @@
 -- What will edits of a disk do to an image, and when can't they be made of it?
-use Rattle.qcow2_changes.specs.PlannedChanges.{SomeIsUncounted, AreSorted, CannotCount}
+use Rattle.qcow2_apply.specs.PlannedChanges.{SomeIsUncounted, AreSorted, CannotCount}
 use Rattle.qcow2_apply.specs.PlannedTables.{AreReadBy, tables_refusal, lost_before, counter_tables, ComesTo}
 use Rattle.std.specs.Prelude.{◌≡◌, ℕ, false, ◌<◌, if◌then◌else◌, List, length, IsSome, None, option_map, Result, Ok, Err}
 use Rattle.qcow2_base.specs.Storage.{Image}
@@ -13,14 +13,14 @@ use Rattle.qcow2_check.specs.FileEnd.{tables_in_file}
 use Rattle.qcow2_check.specs.L1Length.{short_l1_refusal}
 use Rattle.qcow2_check.specs.NamedTables.{loaded_l1_table}
 use Rattle.qcow2_check.specs.Uses.{ImageTables, image_tables}
-use Rattle.qcow2_changes.specs.ChangedClusters.{ListsChanges}
-use Rattle.qcow2_changes.specs.Changes.{losses_of}
-use Rattle.qcow2_guest_edits.specs.EditsByTable.{IsByTable}
-use Rattle.qcow2_guest_edits.specs.GuestEdits.{edits_refusal, first_unfit_within}
-use Rattle.qcow2_guest_edits.specs.Tables.{AllFit}
-use Rattle.qcow2_changes.specs.declared.changes.Changes.{Changes}
+use Rattle.qcow2_apply.specs.ChangedClusters.{ListsChanges}
+use Rattle.qcow2_apply.specs.Changes.{losses_of}
+use Rattle.qcow2_apply.specs.EditsByTable.{IsByTable}
+use Rattle.qcow2_apply.specs.GuestEdits.{edits_refusal, first_unfit_within}
+use Rattle.qcow2_apply.specs.Tables.{AllFit}
+use Rattle.qcow2_apply.specs.declared.changes.Changes.{Changes}
 use Rattle.qcow2_apply.specs.declared.plan.Plan.{Plan}
-use Rattle.qcow2_guest_edits.specs.declared.guest_edits.GuestEdit.{GuestEdit}
+use Rattle.qcow2_apply.specs.declared.guest_edits.GuestEdit.{GuestEdit}
 
 -- why edits can't be made of an image with this header and of this length, if they can't: the L1 table is too short, the first
 -- edit that doesn't fit the disk or maps a cluster past the end, or a table past the end. With an external data file clusters

@@ -1,5 +1,5 @@
 -- Which edits of L2 tables can't be made of an image, and what do they do to references?
-use Rattle.qcow2_changes.specs.PlannedChanges.{AreSorted, SomeIsUncounted}
+use Rattle.qcow2_apply.specs.PlannedChanges.{AreSorted, SomeIsUncounted}
 use Rattle.std.specs.Option.{option_or}
 use Rattle.std.specs.Prelude.{◌≡◌, ◌⊎◌, ℕ, Bool, true, false, not, ◌==◌, ◌&&◌, ◌<◌, List, length, slice_get, slice_index, IsSome, is_some, if◌then◌else◌, Option, Some, None, option_map, Ok, Err}
 use Rattle.std.specs.List.{list_any, position, range_with_len, sum_by}
@@ -15,19 +15,19 @@ use Rattle.qcow2_metadata.specs.Table.L2Guards.{RunEnd, handed_back, times_gaine
 use Rattle.qcow2_check.specs.Counters.{CountersState, block_of_cluster, counter_of, counters_each}
 use Rattle.qcow2_check.specs.NamedTables.{named_cluster}
 use Rattle.qcow2_check.specs.Uses.{ImageTables, image_tables}
-use Rattle.qcow2_changes.specs.CounterTables.{CounterTablesState}
-use Rattle.qcow2_changes.specs.Changes.{AddsChanges, gains_of, losses_of}
-use Rattle.qcow2_guest_edits.specs.EditsByTable.{IsByTable}
-use Rattle.qcow2_guest_edits.specs.GuestEdits.{edits_in, has_clusters_in}
-use Rattle.qcow2_guest_edits.specs.NeededTables.{are_more_needed, is_table_needed}
-use Rattle.qcow2_guest_edits.specs.MappedClusters.{HoldsMappings, times_mapped}
-use Rattle.qcow2_guest_edits.specs.Tables.{AllFit, run_in}
-use Rattle.qcow2_changes.specs.declared.changes.Changes.{Changes}
-use Rattle.qcow2_guest_edits.specs.declared.edits_by_table.EditsByTable.{EditsByTable}
-use Rattle.qcow2_changes.specs.declared.planned_changes.PlannedChanges.{PlannedChanges}
+use Rattle.qcow2_apply.specs.CounterTables.{CounterTablesState}
+use Rattle.qcow2_apply.specs.Changes.{AddsChanges, gains_of, losses_of}
+use Rattle.qcow2_apply.specs.EditsByTable.{IsByTable}
+use Rattle.qcow2_apply.specs.GuestEdits.{edits_in, has_clusters_in}
+use Rattle.qcow2_apply.specs.NeededTables.{are_more_needed, is_table_needed}
+use Rattle.qcow2_apply.specs.MappedClusters.{HoldsMappings, times_mapped}
+use Rattle.qcow2_apply.specs.Tables.{AllFit, run_in}
+use Rattle.qcow2_apply.specs.declared.changes.Changes.{Changes}
+use Rattle.qcow2_apply.specs.declared.edits_by_table.EditsByTable.{EditsByTable}
+use Rattle.qcow2_apply.specs.declared.planned_changes.PlannedChanges.{PlannedChanges}
 use Rattle.qcow2_apply.specs.declared.planned_tables.Sources.{Sources}
-use Rattle.qcow2_guest_edits.specs.declared.guest_edits.GuestEdit.{GuestEdit}
-use Rattle.qcow2_guest_edits.specs.declared.guest_edits.GuestEdit.TheVariants.{Discard, Map, Zero}
+use Rattle.qcow2_apply.specs.declared.guest_edits.GuestEdit.{GuestEdit}
+use Rattle.qcow2_apply.specs.declared.guest_edits.GuestEdit.TheVariants.{Discard, Map, Zero}
 
 -- whether an L2 table belongs to the image alone: its L1 entry says so, and its counter
 abbrev pub is_alone : ImageTables → Image → ℕ → HostCluster → Bool

@@ -9,9 +9,8 @@ ghost use Rattle.qcow2_apply.specs.Plan.{IsPlanFor, IsPlanOf, edits_within};
 
 use crate::blocks::follow_changes;
 use crate::plan::Plan;
+use crate::{ChangedClusters, CounterTables, GuestEdit, edit_tables};
 use qcow2_base::{Device, Fault, Storage};
-use qcow2_changes::{ChangedClusters, CounterTables};
-use qcow2_guest_edits::{GuestEdit, edit_tables};
 use qcow2_metadata::{Header, L2Table, RefBlock};
 use std::alloc::Global;
 

@@ -1,13 +1,28 @@
-//! Edits of guest ranges of an image, over any number of its tables, with its counters.
+//! Edits of guest ranges of an image: what they need, what they do to counters and clusters, the edits
+//! themselves, and what they keep of an image.
 #![tactic(auto)]
 
 mod apply;
 mod blocks;
+mod changed_clusters;
+mod changes;
+mod counter_tables;
+mod edits_by_table;
+mod guest_edits;
+pub mod laws;
+mod mapped_clusters;
+mod needed_tables;
 mod plan;
+mod planned_changes;
 mod planned_tables;
+mod tables;
 
 pub use apply::apply_edits;
 pub use blocks::follow_changes;
+pub use changed_clusters::{ChangedClusters, KeptCluster};
+pub use changes::Changes;
+pub use counter_tables::CounterTables;
+pub use edits_by_table::EditsByTable;
+pub use guest_edits::{GuestEdit, edits_in, first_unfit};
 pub use plan::Plan;
-pub use qcow2_changes::{ChangedClusters, Changes, CounterTables, KeptCluster};
-pub use qcow2_guest_edits::{EditsByTable, GuestEdit, edit_tables, edits_in, first_unfit};
+pub use tables::edit_tables;

@@ -6,12 +6,11 @@ ghost use Rattle.qcow2_check.specs.Failures.{RefusesAs};
 ghost use Rattle.qcow2_metadata.specs.Results.{Answers, IsFromOutside, unless_refused};
 ghost use Rattle.qcow2_apply.specs.Plan.{AreRead, CanBePlannedBy, IsPlanFor, IsPlanOf, RefusesEdits, edits_within};
 
+use crate::guest_edits::{check_edits, first_unfit_within};
 use crate::planned_tables::plan_by_tables;
+use crate::{ChangedClusters, Changes, CounterTables, EditsByTable, GuestEdit};
 use qcow2_base::{Device, Fault, Storage};
-use qcow2_changes::{ChangedClusters, Changes, CounterTables};
 use qcow2_check::{Counters, load_l1_table, refuse_short_l1, refuse_tables_past_end};
-use qcow2_guest_edits::parts::{check_edits, first_unfit_within};
-use qcow2_guest_edits::{EditsByTable, GuestEdit};
 use qcow2_metadata::{Header, L1Table, RefTable};
 use std::alloc::Global;
 

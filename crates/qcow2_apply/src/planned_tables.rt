@@ -10,21 +10,23 @@ ghost use Rattle.qcow2_metadata.specs.Table.L2Guards.{handed_back};
 ghost use Rattle.qcow2_check.specs.Counters.{counters_each, IsKeptBlockOf, IsSameButBlock};
 ghost use Rattle.qcow2_check.specs.NamedTables.{IsInImage, named_cluster};
 ghost use Rattle.qcow2_check.specs.Uses.{image_tables};
-ghost use Rattle.qcow2_changes.specs.Changes.{HasNone};
-ghost use Rattle.qcow2_guest_edits.specs.EditsByTable.{IsByTable, positions_in};
-ghost use Rattle.qcow2_guest_edits.specs.GuestEdits.{has_clusters_in};
-ghost use Rattle.qcow2_guest_edits.specs.NeededTables.{are_more_needed, is_table_needed};
-ghost use Rattle.qcow2_changes.specs.PlannedChanges.{StaySorted, AreSorted};
+ghost use Rattle.qcow2_apply.specs.Changes.{HasNone};
+ghost use Rattle.qcow2_apply.specs.EditsByTable.{IsByTable, positions_in};
+ghost use Rattle.qcow2_apply.specs.GuestEdits.{has_clusters_in};
+ghost use Rattle.qcow2_apply.specs.NeededTables.{are_more_needed, is_table_needed};
+ghost use Rattle.qcow2_apply.specs.PlannedChanges.{StaySorted, AreSorted};
 ghost use Rattle.qcow2_apply.specs.PlannedTables.{tables_refusal, AddsTable, AreKnown, IsPlanned, planning_tables, AreSources, alone_fault, mapping_fault, mapping_fault_in, mappings_fault, named_table_refusal, table_refusal, AreReadBy};
-ghost use Rattle.qcow2_guest_edits.specs.Tables.{AllFit};
+ghost use Rattle.qcow2_apply.specs.Tables.{AllFit};
 
+use crate::changes::joined;
+use crate::guest_edits::first_in;
+use crate::mapped_clusters::MappedClusters;
+use crate::needed_tables::{are_more_needed, first_missing};
+use crate::planned_changes::PlannedChanges;
+use crate::tables::load_outcome;
+use crate::{EditsByTable, GuestEdit};
 use qcow2_base::{Fault, HostCluster, Storage};
-use qcow2_changes::parts::{PlannedChanges, joined};
 use qcow2_check::{Counters, named_cluster};
-use qcow2_guest_edits::parts::{
-    MappedClusters, are_more_needed, first_in, first_missing, load_outcome,
-};
-use qcow2_guest_edits::{EditsByTable, GuestEdit};
 use qcow2_metadata::{Header, L1Table, Table};
 use std::alloc::Global;
 

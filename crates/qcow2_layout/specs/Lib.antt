@@ -1,4 +1,5 @@
 pub mod Layout
 pub mod Parts
+pub mod Picture
 pub mod Window
 pub mod Windows

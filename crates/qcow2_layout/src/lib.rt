@@ -4,10 +4,14 @@
 
 pub mod laws;
 mod layout;
+mod painting;
 mod parts;
+mod picture;
 mod places;
 mod window;
 mod windows;
 
 pub use layout::Layout;
+pub use painting::picture_of;
 pub use parts::{Part, Run};
+pub use picture::{COLUMNS, Picture, Shape};

@@ -14,8 +14,7 @@ ghost use Rattle.qcow2_layout.specs.Windows.{IsSize, most_window_bytes};
 use crate::places::place_image;
 use crate::window::Window;
 use qcow2_base::{Fault, MAX_FILE_LENGTH, Storage};
-use qcow2_check::ImageTables;
-use qcow2_check::parts::counted_end;
+use qcow2_check::{ImageTables, counted_end};
 use qcow2_metadata::Table;
 
 // The fewest cells that lie one after another.

@@ -16,8 +16,7 @@ ghost use Rattle.qcow2_check.specs.Failures.{ReportsFailures};
 ghost use Rattle.qcow2_repair.specs.Counters.{BreaksOff, IsPastCounters, PassesBetween, PassesBlock, PassesCounters, block_counters, counter_towards};
 
 use qcow2_base::{Device, Fault, HostCluster, MAX_FILE_LENGTH, Storage};
-use qcow2_check::parts::{Tally, Windows, count_of, counted_end};
-use qcow2_check::{ImageTables, named_block};
+use qcow2_check::{ImageTables, Tally, Windows, count_of, counted_end, named_block};
 use qcow2_metadata::{RefBlock, Table};
 
 /// Which counters a pass changes.

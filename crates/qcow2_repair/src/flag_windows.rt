@@ -16,8 +16,7 @@ ghost use Rattle.qcow2_repair.specs.Flags.{BreaksOffFlags, IsL1TableOf, PassesFl
 
 use crate::flags::FlagPass;
 use qcow2_base::{Device, Fault, Storage};
-use qcow2_check::ImageTables;
-use qcow2_check::parts::{Windows, counted_end};
+use qcow2_check::{ImageTables, Windows, counted_end};
 use qcow2_metadata::{Header, L1Table, RefTable, Table};
 
 // Writes the L1 table of an image with this header, if it is modified.

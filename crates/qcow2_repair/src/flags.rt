@@ -13,8 +13,7 @@ ghost use Rattle.qcow2_check.specs.Failures.{ReportsFailures};
 ghost use Rattle.qcow2_repair.specs.Flags.{BreaksOffL2, PassesL2, due_flag, l1_due, l2_due, l2_in, pass_by, passed_l1, passed_l2};
 
 use qcow2_base::{Fault, HostCluster, Storage};
-use qcow2_check::parts::{Tally, count_of, flagged_cluster};
-use qcow2_check::{load_l2_table, named_block, named_cluster};
+use qcow2_check::{Tally, count_of, flagged_cluster, load_l2_table, named_block, named_cluster};
 use qcow2_metadata::{Header, L1Table, L2Entry, L2Table, RefTable, Table, TableEntry};
 use std::alloc::Global;
 use std::marker::Model;

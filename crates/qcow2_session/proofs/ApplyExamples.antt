@@ -1,6 +1,6 @@
 use Rattle.std.proofs.Common.{◌≡◌, ◌∷◌, [], false, true, None, Some, refl}
 use Rattle.std.specs.Prelude.{codes}
-use Rattle.qcow2_guest_edits.specs.declared.guest_edits.GuestEdit.TheVariants.{Discard, Map, Zero}
+use Rattle.qcow2_apply.specs.declared.guest_edits.GuestEdit.TheVariants.{Discard, Map, Zero}
 use Rattle.qcow2_session.specs.Commands.Apply.{apply_command, disk_edit_of, guest_edit, maps_within}
 use Rattle.qcow2_session.specs.declared.commands.Command.TheVariants.{Apply}
 use Rattle.qcow2_session.specs.declared.commands.apply.ApplyForm.TheVariants.{Make, Plan}

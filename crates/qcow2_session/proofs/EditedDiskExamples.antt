@@ -1,7 +1,7 @@
 use Rattle.std.proofs.Common.{◌≡◌, ◌∷◌, [], List, map, false, true, Some, None, refl}
 use Rattle.qcow2_metadata.specs.Entries.L2Mapping.{Mapping, backing, compressed, data_file, zeros}
-use Rattle.qcow2_guest_edits.specs.declared.guest_edits.GuestEdit.{GuestEdit}
-use Rattle.qcow2_guest_edits.specs.declared.guest_edits.GuestEdit.TheVariants.{Discard, Map, Zero}
+use Rattle.qcow2_apply.specs.declared.guest_edits.GuestEdit.{GuestEdit}
+use Rattle.qcow2_apply.specs.declared.guest_edits.GuestEdit.TheVariants.{Discard, Map, Zero}
 use Rattle.qcow2_session.specs.EditedDisk.{mapping_left}
 
 -- edits of the first clusters of 64 KiB: the first three are taken away, the next two become zeros, of which one keeps its

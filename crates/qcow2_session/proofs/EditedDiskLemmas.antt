@@ -10,10 +10,10 @@ use Rattle.qcow2_metadata.specs.Header.{HeaderRecord, geometry_of}
 use Rattle.qcow2_metadata.specs.Table.{l2_entries}
 use Rattle.qcow2_metadata.specs.Table.L2Guards.{run_of}
 use Rattle.qcow2_edits.specs.Edits.{table_edit}
-use Rattle.qcow2_guest_edits.proofs.TablesLemmas.{unfit-none}
-use Rattle.qcow2_guest_edits.specs.GuestEdits.{cluster_end, edits_by, edits_in, first_cluster, guest_edit_fits, guest_length, guest_offset, is_mappable_by, table_end, table_start}
-use Rattle.qcow2_guest_edits.specs.Tables.{AllFit, run_in}
-use Rattle.qcow2_guest_edits.specs.declared.guest_edits.GuestEdit.{GuestEdit}
+use Rattle.qcow2_apply.proofs.TablesLemmas.{unfit-none}
+use Rattle.qcow2_apply.specs.GuestEdits.{cluster_end, edits_by, edits_in, first_cluster, guest_edit_fits, guest_length, guest_offset, is_mappable_by, table_end, table_start}
+use Rattle.qcow2_apply.specs.Tables.{AllFit, run_in}
+use Rattle.qcow2_apply.specs.declared.guest_edits.GuestEdit.{GuestEdit}
 use Rattle.qcow2_session.proofs.EditedEntryLemmas.{edited-reads}
 use Rattle.qcow2_session.proofs.EditedTableLemmas.{edits-elsewhere, edits-there, length-run, run-append}
 use Rattle.qcow2_session.specs.EditedDisk.{covers, mapping_after, mapping_left}

@@ -12,9 +12,9 @@ use Rattle.qcow2_metadata.specs.Header.{Geometry, HeaderRecord, geometry, geomet
 use Rattle.qcow2_metadata.specs.Table.L2Guards.{EntryEdit, can_be_made, entry_after, is_mappable, to_data, to_nothing, to_zeros}
 use Rattle.qcow2_metadata.specs.declared.entries.l2_mapping.L2Mapping.TheVariants.{DataFile}
 use Rattle.qcow2_edits.specs.Edits.{table_edit}
-use Rattle.qcow2_guest_edits.specs.GuestEdits.{edit_at, is_mappable_by}
-use Rattle.qcow2_guest_edits.specs.declared.guest_edits.GuestEdit.{GuestEdit}
-use Rattle.qcow2_guest_edits.specs.declared.guest_edits.GuestEdit.TheVariants.{Discard, Map, Zero}
+use Rattle.qcow2_apply.specs.GuestEdits.{edit_at, is_mappable_by}
+use Rattle.qcow2_apply.specs.declared.guest_edits.GuestEdit.{GuestEdit}
+use Rattle.qcow2_apply.specs.declared.guest_edits.GuestEdit.TheVariants.{Discard, Map, Zero}
 use Rattle.qcow2_session.specs.EditedDisk.{kept_zeros, mapping_after}
 
 -- the fields of an entry with the zero flag

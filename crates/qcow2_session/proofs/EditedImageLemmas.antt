@@ -5,14 +5,14 @@ use Rattle.qcow2_metadata.specs.Header.Grammar.{header_of}
 use Rattle.qcow2_metadata.specs.Results.{and_then, result_map}
 use Rattle.qcow2_check.specs.NamedTables.{loaded_l1_table}
 use Rattle.qcow2_image.specs.Lookups.{guest_mapping, image_mapping, mapping_in}
-use Rattle.qcow2_apply_laws.proofs.ApartLemmas.{AreUnshared, apart-unshared}
-use Rattle.qcow2_apply_laws.proofs.CheckedLemmas.{done-unshared, l1-stays}
+use Rattle.qcow2_apply.proofs.ApartLemmas.{AreUnshared, apart-unshared}
+use Rattle.qcow2_apply.proofs.CheckedLemmas.{done-unshared, l1-stays}
 use Rattle.qcow2_apply.proofs.ApplyLemmas.{are-planned}
-use Rattle.qcow2_apply_laws.proofs.HeaderLeftLemmas.{header-left}
+use Rattle.qcow2_apply.proofs.HeaderLeftLemmas.{header-left}
 use Rattle.qcow2_apply.specs.Apply.{FollowsPlan, LosesNoName, l2_tables_of, plan_tables, tables_by}
-use Rattle.qcow2_guest_edits.specs.Passes.{ArePlacesApart}
+use Rattle.qcow2_apply.specs.Passes.{ArePlacesApart}
 use Rattle.qcow2_apply.specs.Plan.{IsPlanFor, IsPlanOf}
-use Rattle.qcow2_guest_edits.specs.declared.guest_edits.GuestEdit.{GuestEdit}
+use Rattle.qcow2_apply.specs.declared.guest_edits.GuestEdit.{GuestEdit}
 use Rattle.qcow2_apply.specs.declared.plan.Plan.{Plan}
 use Rattle.qcow2_session.proofs.EditedReadsLemmas.{reads-as-left}
 use Rattle.qcow2_session.specs.EditedDisk.{mapping_left}

@@ -20,17 +20,17 @@ use Rattle.qcow2_check.specs.NamedTables.{named_cluster}
 use Rattle.qcow2_check.specs.Uses.{ImageTables}
 use Rattle.qcow2_image.specs.Lookups.{guest_mapping, mapping_by}
 use Rattle.qcow2_apply.proofs.ApplyLemmas.{can-be-made, never-refused, table-left}
-use Rattle.qcow2_guest_edits.proofs.GuestEditsLemmas.{no-edits-in}
+use Rattle.qcow2_apply.proofs.GuestEditsLemmas.{no-edits-in}
 use Rattle.qcow2_apply.proofs.PlannedTablesLemmas.{none-refused-at}
-use Rattle.qcow2_guest_edits.proofs.TablesLemmas.{edits-made, named-below}
+use Rattle.qcow2_apply.proofs.TablesLemmas.{edits-made, named-below}
 use Rattle.qcow2_apply.specs.Apply.{AreAllApart, FollowsPlan, plan_tables}
-use Rattle.qcow2_guest_edits.specs.GuestEdits.{cluster_end, edits_in, ends_after, guest_edit_fits, has_clusters_in, is_discard}
+use Rattle.qcow2_apply.specs.GuestEdits.{cluster_end, edits_in, ends_after, guest_edit_fits, has_clusters_in, is_discard}
 use Rattle.qcow2_apply.specs.Plan.{IsPlanFor, IsPlanOf}
 use Rattle.qcow2_apply.specs.PlannedTables.{table_refusal, tables_refusal}
-use Rattle.qcow2_guest_edits.specs.NeededTables.{is_table_needed}
-use Rattle.qcow2_guest_edits.specs.Tables.{AllFit, IsEdited, run_in}
-use Rattle.qcow2_guest_edits.specs.declared.guest_edits.GuestEdit.{GuestEdit}
-use Rattle.qcow2_guest_edits.specs.declared.guest_edits.GuestEdit.TheVariants.{Discard, Map, Zero}
+use Rattle.qcow2_apply.specs.NeededTables.{is_table_needed}
+use Rattle.qcow2_apply.specs.Tables.{AllFit, IsEdited, run_in}
+use Rattle.qcow2_apply.specs.declared.guest_edits.GuestEdit.{GuestEdit}
+use Rattle.qcow2_apply.specs.declared.guest_edits.GuestEdit.TheVariants.{Discard, Map, Zero}
 use Rattle.qcow2_apply.specs.declared.plan.Plan.{Plan}
 use Rattle.qcow2_session.proofs.EditedDiskLemmas.{entry-reads, fit-first, in-edit}
 use Rattle.qcow2_session.proofs.EditedTableLemmas.{run-lawful}

@@ -14,10 +14,10 @@ use Rattle.qcow2_metadata.specs.Table.{first_fault, l2_entries}
 use Rattle.qcow2_metadata.specs.Table.L2Guards.{TableEdit, after_edit, can_be_made, entry_after, fits_table, run_of}
 use Rattle.qcow2_edits.specs.Edits.{table_edit}
 use Rattle.qcow2_edits.specs.declared.edits.Edit.{Edit}
-use Rattle.qcow2_guest_edits.specs.GuestEdits.{edit_at, edits_by, table_end, table_start}
-use Rattle.qcow2_guest_edits.specs.Tables.{AreMade, run_in}
-use Rattle.qcow2_guest_edits.specs.declared.guest_edits.GuestEdit.{GuestEdit}
-use Rattle.qcow2_guest_edits.specs.declared.guest_edits.GuestEdit.TheVariants.{Discard, Map, Zero}
+use Rattle.qcow2_apply.specs.GuestEdits.{edit_at, edits_by, table_end, table_start}
+use Rattle.qcow2_apply.specs.Tables.{AreMade, run_in}
+use Rattle.qcow2_apply.specs.declared.guest_edits.GuestEdit.{GuestEdit}
+use Rattle.qcow2_apply.specs.declared.guest_edits.GuestEdit.TheVariants.{Discard, Map, Zero}
 use Rattle.qcow2_session.proofs.EditedEntryLemmas.{edited-lawful}
 
 -- an edit leaves as many numbers, and so do edits

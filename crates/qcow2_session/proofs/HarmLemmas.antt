@@ -11,14 +11,14 @@ use Rattle.qcow2_check.specs.L1Length.{is_l1_short}
 use Rattle.qcow2_check.specs.Totals.{harms_nobody, totals_on, verdict_in, verdict_of}
 use Rattle.qcow2_check.specs.Uses.{ImageTables}
 use Rattle.qcow2_check.specs.declared.findings.Finding.{Finding}
-use Rattle.qcow2_apply_laws.proofs.CheckedLemmas.{checked-planned, finds-none}
-use Rattle.qcow2_apply_laws.proofs.HeaderLeftLemmas.{header-left-by-check}
+use Rattle.qcow2_apply.proofs.CheckedLemmas.{checked-planned, finds-none}
+use Rattle.qcow2_apply.proofs.HeaderLeftLemmas.{header-left-by-check}
 use Rattle.qcow2_apply.specs.Apply.{EditsDisk, FollowsPlan, LosesNoName, l2_tables_of}
-use Rattle.qcow2_apply_laws.specs.Errors.{HasNoErrors}
-use Rattle.qcow2_guest_edits.specs.Passes.{ArePlacesApart}
+use Rattle.qcow2_apply.specs.Errors.{HasNoErrors}
+use Rattle.qcow2_apply.specs.Passes.{ArePlacesApart}
 use Rattle.qcow2_apply.specs.Plan.{IsPlanFor, IsPlanOf}
-use Rattle.qcow2_changes.specs.declared.changed_clusters.ChangedClusters.{ChangedClusters}
-use Rattle.qcow2_guest_edits.specs.declared.guest_edits.GuestEdit.{GuestEdit}
+use Rattle.qcow2_apply.specs.declared.changed_clusters.ChangedClusters.{ChangedClusters}
+use Rattle.qcow2_apply.specs.declared.guest_edits.GuestEdit.{GuestEdit}
 use Rattle.qcow2_apply.specs.declared.plan.Plan.{Plan}
 use Rattle.qcow2_session.specs.Commands.Check.{FindsNoHarm, report_on}
 use Rattle.qcow2_check.specs.declared.totals.Totals.{Totals}

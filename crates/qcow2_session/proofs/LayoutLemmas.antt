@@ -9,7 +9,7 @@ use Rattle.qcow2_check.specs.Uses.{ImageTables}
 use Rattle.qcow2_layout.specs.Layout.{AreRunsTo, IsRun, LayoutState, Parts, layout_tables}
 use Rattle.qcow2_layout.specs.Parts.{part_at, taken_end}
 use Rattle.qcow2_layout.specs.declared.parts.Run.{Run}
-use Rattle.qcow2_picture.proofs.ImageLemmas.{IsRunOf}
+use Rattle.qcow2_layout.proofs.ImageLemmas.{IsRunOf}
 use Rattle.qcow2_metadata.specs.Header.{HeaderRecord}
 use Rattle.qcow2_metadata.specs.Results.{IsFromOutside}
 use Rattle.qcow2_session.proofs.PrintingLemmas.{read_fault-of, run_between}

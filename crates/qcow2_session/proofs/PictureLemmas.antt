@@ -5,8 +5,8 @@ use Rattle.qcow2_base.specs.declared.fault.Fault.{Fault}
 use Rattle.qcow2_base.specs.declared.fault.Fault.TheVariants.{NoMemory, Storage}
 use Rattle.qcow2_check.specs.Findings.{checked_tables}
 use Rattle.qcow2_metadata.specs.Header.{HeaderRecord}
-use Rattle.qcow2_picture.specs.Picture.{IsPictureOf, PictureState, shapes_of, shown_squares}
-use Rattle.qcow2_picture.specs.declared.picture.Shape.{Shape}
+use Rattle.qcow2_layout.specs.Picture.{IsPictureOf, PictureState, shapes_of, shown_squares}
+use Rattle.qcow2_layout.specs.declared.picture.Shape.{Shape}
 use Rattle.qcow2_session.proofs.PrintingLemmas.{read_fault-of, run_between}
 use Rattle.qcow2_session.proofs.VerdictLemmas.{is_ok_and-weaker}
 use Rattle.qcow2_session.specs.Commands.Layout.{is_printed_in_turn}

@@ -3,7 +3,7 @@ use Rattle.std.proofs.Math.Pow.{pow_mono}
 use Rattle.std.proofs.lemmas.List.Concat.{flat_map-append}
 use Rattle.std.proofs.lemmas.Nat.{mul-lt}
 use Rattle.std.specs.List.{range_with_len}
-use Rattle.qcow2_guest_edits.proofs.GuestEditsLemmas.{range-split}
+use Rattle.qcow2_apply.proofs.GuestEditsLemmas.{range-split}
 use Rattle.qcow2_base.specs.Storage.{Image, OnImage, OnlyReads, StorageState}
 use Rattle.qcow2_base.specs.declared.fault.Fault.{Fault}
 use Rattle.qcow2_check.proofs.FlagsLemmas.{guest_offset_fits}

@@ -1,9 +1,9 @@
 -- What does a guest offset read as after edits of the disk, by what it read as before?
 use Rattle.std.specs.Prelude.{ℕ, Bool, true, false, ◌&&◌, ◌+◌, ◌*◌, ◌/◌, ◌^◌, nat_le, nat_lt, if◌then◌else◌, List, [], ◌∷◌, Some, None}
 use Rattle.qcow2_metadata.specs.Entries.L2Mapping.{Mapping, backing, compressed, data_file, zeros}
-use Rattle.qcow2_guest_edits.specs.GuestEdits.{guest_length, guest_offset}
-use Rattle.qcow2_guest_edits.specs.declared.guest_edits.GuestEdit.{GuestEdit}
-use Rattle.qcow2_guest_edits.specs.declared.guest_edits.GuestEdit.TheVariants.{Discard, Map, Zero}
+use Rattle.qcow2_apply.specs.GuestEdits.{guest_length, guest_offset}
+use Rattle.qcow2_apply.specs.declared.guest_edits.GuestEdit.{GuestEdit}
+use Rattle.qcow2_apply.specs.declared.guest_edits.GuestEdit.TheVariants.{Discard, Map, Zero}
 
 -- whether the range of an edit has the byte at a guest offset
 abbrev pub covers : ℕ → ℕ → GuestEdit → Bool

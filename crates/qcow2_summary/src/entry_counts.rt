@@ -11,8 +11,7 @@ ghost use Rattle.qcow2_check.specs.NamedTables.{l1_cluster, l1_layout};
 ghost use Rattle.qcow2_check.specs.Uses.{l1_entry_loads};
 
 use qcow2_base::{Fault, HostCluster, Storage};
-use qcow2_check::parts::flagged_cluster;
-use qcow2_check::{load_l1_table, load_l2_table, named_cluster};
+use qcow2_check::{flagged_cluster, load_l1_table, load_l2_table, named_cluster};
 use qcow2_metadata::{Header, L1Table, L2Table, Table};
 use std::alloc::Global;
 

@@ -3,7 +3,7 @@
 use qcow2_base::{Fault, Storage};
 use qcow2_layout::{Layout, Run};
 use qcow2_metadata::Header;
-use qcow2_picture::{Shape, picture_of};
+use qcow2_layout::{Shape, picture_of};
 use std::alloc::Global;
 
 /// All runs of an image, in order, the first hundred of them at most. Where a read is refused, the reader is

@@ -3,7 +3,7 @@
 use super::calls::shapes_of_image;
 use crate::sample_image::{BLOCK, HEADER, L2_TABLE, NEXT_ENTRY, Numbers, REFTABLE, sample_image};
 use qcow2_base::Fault;
-use qcow2_picture::Shape;
+use qcow2_layout::Shape;
 use qcow2_testing::{each, rows, same};
 use std::alloc::Global;
 use std::test::Fail;

@@ -14,10 +14,10 @@ use Rattle.qcow2_metadata.specs.Header.BitmapCount.{consistent_bitmaps}
 use Rattle.qcow2_metadata.specs.Results.{IsFromOutside}
 use Rattle.qcow2_apply.specs.Apply.{EditsDisk}
 use Rattle.qcow2_apply.specs.Plan.{IsPlanOf, RefusesEdits, edits_within}
-use Rattle.qcow2_changes.specs.declared.changed_clusters.ChangedClusters.{ChangedClusters}
-use Rattle.qcow2_changes.specs.declared.changed_clusters.KeptCluster.{KeptCluster}
-use Rattle.qcow2_guest_edits.specs.declared.guest_edits.GuestEdit.{GuestEdit}
-use Rattle.qcow2_guest_edits.specs.declared.guest_edits.GuestEdit.TheVariants.{Discard, Map, Zero}
+use Rattle.qcow2_apply.specs.declared.changed_clusters.ChangedClusters.{ChangedClusters}
+use Rattle.qcow2_apply.specs.declared.changed_clusters.KeptCluster.{KeptCluster}
+use Rattle.qcow2_apply.specs.declared.guest_edits.GuestEdit.{GuestEdit}
+use Rattle.qcow2_apply.specs.declared.guest_edits.GuestEdit.TheVariants.{Discard, Map, Zero}
 use Rattle.qcow2_apply.specs.declared.plan.Plan.{Plan as EditPlan}
 use Rattle.qcow2_session.specs.Commands.Edit.{freed_line, gained_line}
 use Rattle.qcow2_session.specs.Commands.Facts.{CommandFacts, plain_facts}

@@ -6,7 +6,7 @@ use Rattle.qcow2_check.proofs.FailuresLemmas.{refuses-no-more}
 use Rattle.qcow2_apply.proofs.ApplyLemmas.{reports-fault, reports-then, reports-value}
 use Rattle.qcow2_apply.specs.Apply.{FollowsPlan, Makes, Refuses}
 use Rattle.qcow2_apply.specs.Plan.{IsPlanOf}
-use Rattle.qcow2_changes.specs.declared.changed_clusters.ChangedClusters.{ChangedClusters}
+use Rattle.qcow2_apply.specs.declared.changed_clusters.ChangedClusters.{ChangedClusters}
 use Rattle.qcow2_apply.proofs.apply.apply_edits.Goals as goal
 
 pub returns-in_err-plan-clause-edited : goal.returns-in_err-plan-clause-edited

@@ -1,8 +1,8 @@
 use Rattle.std.proofs.Common.{refl, rules, arith}
 use Rattle.qcow2_apply.proofs.BlocksLemmas.{are-of-clusters, idle-follows}
-use Rattle.qcow2_changes.proofs.CounterTablesLemmas.{place-at}
-use Rattle.qcow2_guest_edits.proofs.PassesLemmas.{none-steps, one-keeps, step-answer}
-use Rattle.qcow2_changes.specs.CounterTables.{BlockFollows, NamesBlock}
+use Rattle.qcow2_apply.proofs.CounterTablesLemmas.{place-at}
+use Rattle.qcow2_apply.proofs.PassesLemmas.{none-steps, one-keeps, step-answer}
+use Rattle.qcow2_apply.specs.CounterTables.{BlockFollows, NamesBlock}
 use Rattle.qcow2_apply.specs.Blocks.{blocks}
 use Rattle.qcow2_apply.proofs.blocks.follow_at.Goals as goal
 

@@ -1,9 +1,9 @@
 use Rattle.std.proofs.Common.{◌≡◌, ◌≤◌, IsTrue, length, refl, inl, inr, ◌∙◌, arith, rules}
 use Rattle.std.proofs.lemmas.Result.{err_from_is_err_and}
 use Rattle.qcow2_apply.proofs.BlocksLemmas.{counters-follow, counters-stop, stuck-before}
-use Rattle.qcow2_changes.proofs.CounterTablesLemmas.{names-below}
-use Rattle.qcow2_guest_edits.proofs.PassesLemmas.{begins, breaks-later, keeps-twice, none-tears, passes-all, steps-next}
-use Rattle.qcow2_changes.specs.CounterTables.{BlockFollows}
+use Rattle.qcow2_apply.proofs.CounterTablesLemmas.{names-below}
+use Rattle.qcow2_apply.proofs.PassesLemmas.{begins, breaks-later, keeps-twice, none-tears, passes-all, steps-next}
+use Rattle.qcow2_apply.specs.CounterTables.{BlockFollows}
 use Rattle.qcow2_apply.specs.Blocks.{blocks}
 use Rattle.qcow2_apply.proofs.blocks.follow_changes.Goals as goal
 

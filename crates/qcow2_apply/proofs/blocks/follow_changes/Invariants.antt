@@ -2,9 +2,9 @@ use Rattle.std.proofs.Common.{◌≡◌, Ok}
 use Rattle.qcow2_base.specs.Storage.{OnImages}
 use Rattle.qcow2_check.specs.Failures.{ReportsFailures}
 use Rattle.qcow2_metadata.specs.Refblock.{block_geometry_of}
-use Rattle.qcow2_changes.specs.CounterTables.{BlockFollows}
+use Rattle.qcow2_apply.specs.CounterTables.{BlockFollows}
 use Rattle.qcow2_apply.specs.Blocks.{blocks}
-use Rattle.qcow2_guest_edits.specs.Passes.{ArePlacesApart, KeepsOutside, PassesBefore}
+use Rattle.qcow2_apply.specs.Passes.{ArePlacesApart, KeepsOutside, PassesBefore}
 use Rattle.qcow2_apply.proofs.blocks.follow_changes.Given as goal
 
 -- the blocks before this one followed

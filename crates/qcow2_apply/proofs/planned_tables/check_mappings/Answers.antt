@@ -4,7 +4,7 @@ use Rattle.std.proofs.lemmas.Result.{err_from_is_err_and}
 use Rattle.qcow2_base.specs.declared.fault.Fault.TheVariants.{NoMemory, Storage}
 use Rattle.qcow2_metadata.specs.Results.{unless_refused}
 use Rattle.qcow2_metadata.specs.Table.{first_fault}
-use Rattle.qcow2_guest_edits.proofs.EditsByTableLemmas.{listed-below}
+use Rattle.qcow2_apply.proofs.EditsByTableLemmas.{listed-below}
 use Rattle.qcow2_apply.proofs.MissingLemmas.{mappings-kept, taken-none-next, taken-refused}
 use Rattle.qcow2_apply.proofs.PlannedTablesLemmas.{same-mapping, same-sources}
 use Rattle.qcow2_apply.specs.PlannedTables.{mapping_fault_in, planning_tables}

@@ -2,9 +2,9 @@ use Rattle.std.proofs.Common.{◌≡◌, IsTrue, rules}
 use Rattle.std.proofs.lemmas.Result.{err_from_is_err_and}
 use Rattle.std.specs.Option.{option_or}
 use Rattle.qcow2_apply.proofs.PlannedTablesLemmas.{adds-by-sources, adds-run, more-refused, run-of-edits}
-use Rattle.qcow2_changes.proofs.ChangedClustersLemmas.{on-ok, reads-then}
+use Rattle.qcow2_apply.proofs.ChangedClustersLemmas.{on-ok, reads-then}
 use Rattle.qcow2_check.proofs.FindingsLemmas.{reads_twice}
-use Rattle.qcow2_guest_edits.specs.GuestEdits.{edits_in}
+use Rattle.qcow2_apply.specs.GuestEdits.{edits_in}
 use Rattle.qcow2_apply.specs.PlannedTables.{alone_fault, load_fault, mappings_fault, planning_tables}
 use Rattle.qcow2_apply.proofs.planned_tables.plan_named_table.Goals as goal
 

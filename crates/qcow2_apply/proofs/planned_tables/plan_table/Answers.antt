@@ -1,6 +1,6 @@
 use Rattle.std.proofs.Common.{Ok, ap, inl, inr, rules}
 use Rattle.qcow2_metadata.specs.Results.{unless_refused}
-use Rattle.qcow2_guest_edits.proofs.EditsByTableLemmas.{kept-are, none-listed, some-listed}
+use Rattle.qcow2_apply.proofs.EditsByTableLemmas.{kept-are, none-listed, some-listed}
 use Rattle.qcow2_apply.proofs.MissingLemmas.{refused-named, refused-unneeded, refused-untouched}
 use Rattle.qcow2_apply.proofs.PlannedTablesLemmas.{adds-none}
 use Rattle.qcow2_apply.specs.PlannedTables.{planning_tables}

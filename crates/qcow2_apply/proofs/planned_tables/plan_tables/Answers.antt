@@ -7,7 +7,7 @@ use Rattle.std.proofs.lemmas.Result.{err_from_is_err_and}
 use Rattle.qcow2_apply.proofs.MissingLemmas.{missing-refused}
 use Rattle.qcow2_apply.proofs.PlannedTablesLemmas.{all-allowed, first-refused, more-refused, none-refused-next, planned-next, planned-none, same-adds, same-refusal, same-sources}
 use Rattle.qcow2_apply.specs.PlannedTables.{IsPlanned, planning_tables, table_refusal}
-use Rattle.qcow2_guest_edits.specs.NeededTables.{are_more_needed}
+use Rattle.qcow2_apply.specs.NeededTables.{are_more_needed}
 use Rattle.qcow2_apply.proofs.planned_tables.plan_tables.Goals as goal
 
 pub loop-index-init : goal.loop-index-init

@@ -3,7 +3,7 @@ use Rattle.std.specs.List.{range_with_len}
 use Rattle.qcow2_base.specs.Storage.{OnImage, OnlyReads}
 use Rattle.qcow2_check.specs.Counters.{IsSameButBlock}
 use Rattle.qcow2_metadata.specs.Table.{first_fault}
-use Rattle.qcow2_changes.specs.PlannedChanges.{StaySorted}
+use Rattle.qcow2_apply.specs.PlannedChanges.{StaySorted}
 use Rattle.qcow2_apply.specs.PlannedTables.{IsPlanned, planning_tables, table_refusal}
 use Rattle.qcow2_apply.proofs.planned_tables.plan_tables.Given as goal
 

@@ -1,5 +1,5 @@
 use Rattle.qcow2_apply.specs.Apply.{tables_by}
-use Rattle.qcow2_apply_laws.proofs.CheckedLemmas.{unshared}
+use Rattle.qcow2_apply.proofs.CheckedLemmas.{unshared}
 use Rattle.qcow2_session.proofs.EditedImageLemmas.{image-reads-as-left}
 use Rattle.qcow2_session.proofs.HarmLemmas.{no-errors-of-verdict}
 use Rattle.qcow2_session.proofs.laws.a_disk_without_harm_reads_as_edits_leave_it.Goals as goal

@@ -5,8 +5,8 @@ use Rattle.qcow2_base.specs.Storage.{Image, OnImage}
 use Rattle.qcow2_check.specs.Findings.{checked_tables}
 use Rattle.qcow2_check.specs.Uses.{ImageTables}
 use Rattle.qcow2_metadata.specs.Header.{HeaderRecord}
-use Rattle.qcow2_picture.specs.Picture.{IsPictureOf, PictureState, shapes_of, shown_squares}
-use Rattle.qcow2_picture.specs.declared.picture.Shape.{Shape}
+use Rattle.qcow2_layout.specs.Picture.{IsPictureOf, PictureState, shapes_of, shown_squares}
+use Rattle.qcow2_layout.specs.declared.picture.Shape.{Shape}
 use Rattle.qcow2_session.specs.declared.commands.layout.picture.TheConstants.{BEGIN, LEGEND}
 use Rattle.qcow2_session.specs.Commands.Printing.{IsOutputFault, IsReadFault, OutputGets, OutputGetsPart, Run}
 

@@ -5,7 +5,7 @@ use Rattle.qcow2_check.specs.Uses.{image_tables}
 use Rattle.qcow2_apply.proofs.ApplyLemmas.{breaks-in-tables, count-cleared, counters-cleared, counters-stay, ends-applying, storage-alone, gains-count, losses-count, stuck-where-apart, tables-load}
 use Rattle.qcow2_apply.specs.Apply.{CanBeMade}
 use Rattle.qcow2_apply.specs.Blocks.{SomeIsStuck, blocks}
-use Rattle.qcow2_guest_edits.specs.Passes.{ArePlacesApart}
+use Rattle.qcow2_apply.specs.Passes.{ArePlacesApart}
 use Rattle.qcow2_apply.specs.PlannedTables.{counter_tables}
 use Rattle.qcow2_apply.proofs.plan.Plan.make.Goals as goal
 

@@ -4,10 +4,10 @@ use Rattle.qcow2_base.specs.declared.fault.Fault.TheVariants.{NoMemory, Storage}
 use Rattle.qcow2_metadata.specs.Results.{unless_refused}
 use Rattle.qcow2_check.specs.Uses.{image_tables}
 use Rattle.qcow2_apply.proofs.PlanLemmas.{counters-refuse, counts-at, is-plan, planned-is, planned-refused}
-use Rattle.qcow2_changes.proofs.ChangedClustersLemmas.{reads-then}
-use Rattle.qcow2_changes.specs.CounterTables.{CounterTablesState}
-use Rattle.qcow2_changes.specs.ChangedClusters.{ListsChanges}
-use Rattle.qcow2_changes.specs.PlannedChanges.{CannotCount}
+use Rattle.qcow2_apply.proofs.ChangedClustersLemmas.{reads-then}
+use Rattle.qcow2_apply.specs.CounterTables.{CounterTablesState}
+use Rattle.qcow2_apply.specs.ChangedClusters.{ListsChanges}
+use Rattle.qcow2_apply.specs.PlannedChanges.{CannotCount}
 use Rattle.qcow2_apply.specs.PlannedTables.{IsPlanned, tables_refusal}
 use Rattle.qcow2_apply.proofs.plan.Plan.of_whole.Goals as goal
 

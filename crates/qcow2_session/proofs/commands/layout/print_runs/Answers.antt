@@ -3,7 +3,7 @@ use Rattle.std.proofs.KnownBytes.{Appends-trans}
 use Rattle.std.proofs.lemmas.Result.{err_from_is_err_and}
 use Rattle.qcow2_check.proofs.FindingsLemmas.{reads_twice}
 use Rattle.qcow2_layout.specs.Layout.{layout_tables}
-use Rattle.qcow2_picture.proofs.ImageLemmas.{end-known, run-known}
+use Rattle.qcow2_layout.proofs.ImageLemmas.{end-known, run-known}
 use Rattle.qcow2_session.proofs.LayoutLemmas.{run_lines-more, runs-end, runs_of-more}
 use Rattle.qcow2_session.proofs.OutputLemmas.{part-after}
 use Rattle.qcow2_session.proofs.PrintingLemmas.{reads-calm}

@@ -1,0 +1,38 @@
+use Rattle.std.proofs.Common.{◌≡◌, ◌≤◌, IsTrue, length, inl, inr, arith, rules}
+use Rattle.std.proofs.lemmas.Result.{err_from_is_err_and}
+use Rattle.qcow2_apply.proofs.PlannedChangesLemmas.{none-past, counts-next}
+use Rattle.qcow2_apply.proofs.planned_changes.check_counters.Goals as goal
+
+pub loop-index-preserved : goal.loop-index-preserved
+loop-index-preserved g c = record {
+  counts = λ told.
+      let known : IsTrue (g.S.Storage.state c.loop-index.image).tells = search rules in
+      let same : (g.S.Storage.state c.loop-index.image).byte_at ≡ (g.S.Storage.state c.args.image.now).byte_at = search rules in
+      counts-next c.args.tables.now c.args.gains.now c.args.losses.now c.loop-index.index (g.S.Storage.state c.args.image.now).byte_at
+      (c.loop-index.invariant.counts told) (rw same at (c.in_ok-check_block.ensures.counts known));
+  storage = search rules;
+}
+
+pub returns-clause-counts : goal.returns-clause-counts
+returns-clause-counts g c = λ told.
+    let same : c.args.tables.now.reftable ≡ c.tables.inside.reftable.now.numbers = search rules in
+    let count : length c.args.tables.now.reftable ≤ c.loop-index.index = rw same (omega (arith, c.loop-index-test.false)) in
+    none-past c.args.tables.now c.args.gains.now c.args.losses.now c.loop-index.index (g.S.Storage.state c.args.image.now).byte_at count
+    (c.loop-index.invariant.counts told)
+
+pub returns-in_err-check_block-clause-fault : goal.returns-in_err-check_block-clause-fault
+returns-in_err-check_block-clause-fault g c =
+    let exit = err_from_is_err_and c.from_residual.result c.from_residual.ensures.1 in
+    rw (exit.1, exit.2) (elim c.in_err-check_block.ensures.fault [
+      | inl outside ↦ inl outside
+      | inr cannot ↦ inr (
+        cannot.0,
+        λ told.
+            let known : IsTrue (g.S.Storage.state c.loop-index.image).tells = search rules in
+            let same : (g.S.Storage.state c.loop-index.image).byte_at ≡ (g.S.Storage.state c.args.image.now).byte_at = search rules in
+            rw same at (cannot.1 known),
+      )
+    ])
+
+pub returns-in_err-check_block-clause-storage : goal.returns-in_err-check_block-clause-storage
+returns-in_err-check_block-clause-storage g c = grind (arith)

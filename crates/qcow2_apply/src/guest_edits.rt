@@ -1,0 +1,342 @@
+//! Edits of a guest's disk by its offsets, and the edits of the entries of L2 tables that they are.
+
+ghost use Rattle.std.specs.Prelude.{◌≡◌, ℕ, ◌*◌, ◌+◌, ◌^◌, ◌<◌, ◌≤◌, ◌++◌, ◌&&◌, IfOk, Ok, OnOk, map, nat_le, nat_lt, not, true};
+ghost use Rattle.std.specs.List.{flat_map, list_any, position, range_with_len};
+ghost use Rattle.qcow2_metadata.specs.Results.{unless_refused};
+ghost use Rattle.qcow2_metadata.specs.Table.{l2_entries};
+ghost use Rattle.qcow2_base.specs.Types.{IsClusterBits};
+ghost use Rattle.qcow2_apply.specs.EditsByTable.{positions_in};
+ghost use Rattle.qcow2_apply.specs.GuestEdits.{cluster_end, edit_at, edits_by, edits_in, edits_refusal, ends_after, first_cluster, first_unfit_of, guest_edit_fits, guest_length, guest_offset, has_clusters_in, is_discard, is_mappable_by, is_zeros, table_end, table_start, first_unfit_within, maps_within};
+ghost use Rattle.qcow2_apply.specs.Tables.{IsLeftBy, IsL2TableOf};
+
+use qcow2_base::{Fault, GuestCluster, GuestOffset, HostCluster, MAX_OFFSET};
+use qcow2_check::refuse_short_l1;
+use qcow2_edits::Edit;
+use qcow2_metadata::{Header, L2Table};
+use std::alloc::{AllocError, Global};
+
+/// A change of what a range of a guest's disk reads as. Offsets and lengths are in bytes, and multiples of
+/// the cluster size.
+#[derive(Clone, Copy, Debug, PartialEq, Eq)]
+pub enum GuestEdit {
+    /// One guest cluster reads as data in a host cluster that has no other reference.
+    Map {
+        offset: GuestOffset,
+        host_cluster: HostCluster,
+    },
+    /// A range reads as zeros, as entries of version 3 can say. With `keep_allocation` an entry keeps its
+    /// host cluster, but compressed data is given up all the same.
+    Zero {
+        offset: GuestOffset,
+        length: u64,
+        keep_allocation: bool,
+    },
+    /// A range has no data.
+    Discard {
+        offset: GuestOffset,
+        length: u64,
+    },
+}
+
+impl GuestEdit {
+    /// Where the range begins.
+    #[inline]
+    pub fn offset(&self) -> GuestOffset
+        ensures { result ≡ guest_offset self.now }
+    {
+        match *self {
+            GuestEdit::Map { offset, .. }
+            | GuestEdit::Zero { offset, .. }
+            | GuestEdit::Discard { offset, .. } => offset,
+        }
+    }
+
+    /// How many bytes it has: one cluster, where it is mapped.
+    #[inline]
+    pub fn length(&self, cluster_bits: u32) -> u64
+        requires { IsClusterBits cluster_bits }
+        ensures { result ≡ guest_length cluster_bits self.now }
+    {
+        match *self {
+            GuestEdit::Map { .. } => 1 << cluster_bits,
+            GuestEdit::Zero { length, .. } | GuestEdit::Discard { length, .. } => length,
+        }
+    }
+
+    /// Whether it makes zeros.
+    #[inline]
+    pub fn is_zeros(&self) -> bool
+        ensures { result ≡ is_zeros self.now }
+    {
+        match *self {
+            GuestEdit::Zero { .. } => true,
+            GuestEdit::Map { .. } | GuestEdit::Discard { .. } => false,
+        }
+    }
+
+    /// Whether it takes data away, for which an L2 table needn't be there.
+    #[inline]
+    pub fn is_discard(&self) -> bool
+        ensures { result ≡ is_discard self.now }
+    {
+        match *self {
+            GuestEdit::Discard { .. } => true,
+            GuestEdit::Map { .. } | GuestEdit::Zero { .. } => false,
+        }
+    }
+
+    // The edit of the entry at an index of an L2 table.
+    #[inline]
+    fn at(&self, index: usize) -> Edit
+        ensures { result ≡ edit_at self.now index }
+    {
+        match *self {
+            GuestEdit::Map { host_cluster, .. } => Edit::Map {
+                index,
+                host_cluster,
+            },
+            GuestEdit::Zero {
+                keep_allocation,
+                ..
+            } => Edit::Zero {
+                index,
+                keep_allocation,
+            },
+            GuestEdit::Discard { .. } => Edit::Discard { index },
+        }
+    }
+
+    // Whether the host cluster that it maps to, if it does, can be that of an entry.
+    fn is_mappable(&self, header: &Header) -> bool
+        ensures { result ≡ is_mappable_by header.now self.now }
+    {
+        match *self {
+            GuestEdit::Map { host_cluster, .. } => {
+                let greatest = MAX_OFFSET.cluster(header.cluster_bits());
+                host_cluster.0 <= greatest.0 && (header.external_data_file() || host_cluster.0 != 0)
+            }
+            GuestEdit::Zero { .. } | GuestEdit::Discard { .. } => true,
+        }
+    }
+
+    // The first guest cluster, and the one after the last.
+    #[tactic(auto, using(crate::proofs::GuestEditsLemmas::sum_fits))]
+    fn clusters(&self, cluster_bits: u32) -> (u64, u64)
+        requires { IsClusterBits cluster_bits }
+        ensures first { result.0 ≡ first_cluster cluster_bits self.now }
+        ensures end { result.1 ≡ cluster_end cluster_bits self.now }
+    {
+        let first = self.offset().cluster(cluster_bits).0;
+        let length = GuestOffset(self.length(cluster_bits));
+        (first, first + length.cluster(cluster_bits).0)
+    }
+
+    /// Whether the edit can be made of a disk of this header: its range begins and ends with clusters, has
+    /// at least one, and no more than the disk. A mapped host cluster isn't the header's, and an entry can
+    /// refer to it.
+    pub fn fits(&self, header: &Header) -> bool
+        ensures { result ≡ guest_edit_fits header.now self.now }
+    {
+        let cluster_bits = header.cluster_bits();
+        let length = GuestOffset(self.length(cluster_bits));
+        let (first, end) = self.clusters(cluster_bits);
+        self.offset().in_cluster_offset(cluster_bits) == 0
+            && length.in_cluster_offset(cluster_bits) == 0
+            && first < end
+            && end <= header.size().div_ceil(1 << cluster_bits)
+            && self.is_mappable(header)
+    }
+
+    // Whether a cluster that it maps, if it does, begins before the end of an image of this length in bytes.
+    fn maps_within(&self, header: &Header, len: u64) -> bool
+        ensures { result ≡ maps_within len header.now.v2.cluster_bits self.now }
+    {
+        match *self {
+            GuestEdit::Map { host_cluster, .. } => {
+                host_cluster.0 < len.div_ceil(1 << header.cluster_bits())
+            }
+            GuestEdit::Zero { .. } | GuestEdit::Discard { .. } => true,
+        }
+    }
+
+    // The guest clusters of the range that the L2 table of an L1 entry has: the first, and the one after the
+    // last.
+    fn clusters_in(&self, cluster_bits: u32, l1_index: usize) -> (u64, u64)
+        requires bits { IsClusterBits cluster_bits }
+        requires index { l1_index < 2 ^ 32 }
+        ensures start { result.0 ≡ table_start cluster_bits l1_index self.now }
+        ensures end { result.1 ≡ table_end cluster_bits l1_index self.now }
+    {
+        let (first, end) = self.clusters(cluster_bits);
+        let of_table = GuestCluster::from_l1_l2_indices(l1_index, 0, cluster_bits).0;
+        let entries = 1u64 << (cluster_bits - 3);
+        (first.max(of_table), end.min(of_table + entries))
+    }
+
+    /// Whether it has guest clusters of the L2 table of an L1 entry of a disk of this header.
+    pub fn has_clusters_in(&self, header: &Header, l1_index: u32) -> bool
+        ensures { result ≡ has_clusters_in header.now.v2.cluster_bits l1_index self.now }
+    {
+        let (start, end) = self.clusters_in(header.cluster_bits(), l1_index as usize);
+        start < end
+    }
+
+    /// The L1 entries of the L2 tables that it has guest clusters of, where it fits the disk: the first, and
+    /// the one after the last.
+    pub fn tables(&self, header: &Header) -> (usize, usize)
+        requires fits { guest_edit_fits header.now self.now ≡ true }
+        ensures { (i : ℕ) → has_clusters_in header.now.v2.cluster_bits i self.now
+            ≡ (nat_le result.0 i && nat_lt i result.1) }
+    {
+        let cluster_bits = header.cluster_bits();
+        let (first, end) = self.clusters(cluster_bits);
+        let entries = 1u64 << (cluster_bits - 3);
+        (
+            GuestCluster(first).l1_index(cluster_bits),
+            end.div_ceil(entries) as usize,
+        )
+    }
+
+    /// Whether it has guest clusters after those of all L1 entries of a disk of this header.
+    pub fn ends_after(&self, header: &Header) -> bool
+        ensures { result ≡ ends_after header.now.v2.cluster_bits header.now.v2.l1_size self.now }
+    {
+        let (_, end) = self.clusters(header.cluster_bits());
+        (header.l1_table_entries() as u64) << (header.cluster_bits() - 3) < end
+    }
+
+    /// Makes the edits of the L2 table of an L1 entry that this one is, which fits the disk. Takes no memory.
+    pub(crate) fn make_in(&self, table: &mut L2Table, header: &Header, l1_index: usize)
+        requires index { l1_index < 2 ^ 32 }
+        requires table { IsL2TableOf header.now table.old }
+        requires fits { guest_edit_fits header.now self.now ≡ true }
+        ensures { IsLeftBy header.now (edits_by header.now.v2.cluster_bits l1_index self.now)
+            table.old table.new }
+    {
+        let cluster_bits = header.cluster_bits();
+        let (start, end) = self.clusters_in(cluster_bits, l1_index);
+        for cluster in start..end {
+            let edit = self.at(GuestCluster(cluster).l2_index(cluster_bits));
+            let _ = edit.make(table);
+        }
+    }
+
+    // Appends the edits of the L2 table of an L1 entry that this one is.
+    fn push_edits(
+        &self,
+        edits: &mut Vec<Edit>,
+        cluster_bits: u32,
+        l1_index: usize,
+    ) -> Result<(), AllocError>
+        requires bits { IsClusterBits cluster_bits }
+        requires index { l1_index < 2 ^ 32 }
+        ensures { OnOk result (edits.new.items ≡ edits.old.items ++ edits_by cluster_bits l1_index self.now) }
+    {
+        let (start, end) = self.clusters_in(cluster_bits, l1_index);
+        for cluster in start..end {
+            edits.push(self.at(GuestCluster(cluster).l2_index(cluster_bits)))?;
+        }
+        Ok(())
+    }
+}
+
+/// The position of the first edit that can't be made of a disk of this header, if there is one.
+pub fn first_unfit(header: &Header, edits: &[GuestEdit]) -> Option<usize>
+    ensures { result ≡ first_unfit_of header.now edits.now }
+{
+    edits.iter().position(
+        |edit: &GuestEdit| -> bool
+            ensures { result ≡ not (guest_edit_fits header.entry.now edit.now) }
+        { !edit.fits(header) },
+    )
+}
+
+/// The position of the first edit that can't be made of a disk of this header, or that maps a cluster past the
+/// end of an image of this length in bytes, if there is one.
+pub(crate) fn first_unfit_within(header: &Header, edits: &[GuestEdit], len: u64) -> Option<usize>
+    ensures { result ≡ first_unfit_within len header.now edits.now }
+{
+    edits.iter().position(
+        |edit: &GuestEdit| -> bool
+            ensures { result ≡ not (guest_edit_fits header.entry.now edit.now
+                && maps_within len header.entry.now.v2.cluster_bits edit.now) }
+        { !(edit.fits(header) && edit.maps_within(header, len)) },
+    )
+}
+
+/// The position of the first edit that has clusters of the L2 table of an L1 entry, if there is one.
+pub(crate) fn first_in(edits: &[GuestEdit], header: &Header, index: u32) -> Option<usize>
+    ensures { result ≡ position (has_clusters_in header.now.v2.cluster_bits index) edits.now }
+{
+    edits.iter().position(
+        |edit: &GuestEdit| -> bool
+            ensures { result ≡ has_clusters_in header.entry.now.v2.cluster_bits index edit.now }
+        { edit.has_clusters_in(header, index) },
+    )
+}
+
+/// Refuses edits that can't be made of any disk of this header.
+pub(crate) fn check_edits(header: &Header, edits: &[GuestEdit]) -> Result<(), Fault>
+    ensures { result ≡ unless_refused (edits_refusal header.now edits.now) (Ok tt) }
+{
+    refuse_short_l1(header)?;
+    if header.external_data_file() {
+        return Err(Fault::ExternalData);
+    }
+    if let Some(position) = first_unfit(header, edits) {
+        return Err(Fault::BadEdit(position));
+    }
+    if header.version() == 2 && has_zeros(edits) {
+        return Err(Fault::VersionNeeded);
+    }
+    Ok(())
+}
+
+// Whether an edit makes zeros.
+fn has_zeros(edits: &[GuestEdit]) -> bool
+    ensures { result ≡ list_any is_zeros edits.now }
+{
+    edits.iter().any(
+        |edit: &GuestEdit| -> bool
+            ensures { result ≡ is_zeros edit.now }
+        { edit.is_zeros() },
+    )
+}
+
+/// The edits of the L2 table of an L1 entry that edits of a disk are, in their order.
+pub fn edits_in(
+    alloc: Global,
+    edits: &[GuestEdit],
+    cluster_bits: u32,
+    l1_index: usize,
+) -> Result<Vec<Edit>, AllocError>
+    requires bits { IsClusterBits cluster_bits }
+    requires index { l1_index < 2 ^ 32 }
+    ensures { IfOk result (λ list. list.items ≡ edits_in cluster_bits l1_index edits.now) }
+{
+    let mut list = Vec::new(alloc);
+    for edit in edits {
+        edit.push_edits(&mut list, cluster_bits, l1_index)?;
+    }
+    Ok(list)
+}
+
+/// The same by the positions of the edits that are of the table.
+pub(crate) fn edits_at(
+    alloc: Global,
+    edits: &[GuestEdit],
+    positions: &[usize],
+    cluster_bits: u32,
+    l1_index: usize,
+) -> Result<Vec<Edit>, AllocError>
+    requires bits { IsClusterBits cluster_bits }
+    requires index { l1_index < 2 ^ 32 }
+    requires positions { positions.now ≡ positions_in cluster_bits l1_index edits.now }
+    ensures { IfOk result (λ list. list.items ≡ edits_in cluster_bits l1_index edits.now) }
+{
+    let mut list = Vec::new(alloc);
+    for position in positions {
+        edits[*position].push_edits(&mut list, cluster_bits, l1_index)?;
+    }
+    Ok(list)
+}

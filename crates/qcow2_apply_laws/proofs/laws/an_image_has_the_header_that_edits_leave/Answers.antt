@@ -1,5 +1,0 @@
-use Rattle.qcow2_apply_laws.proofs.HeaderLeftLemmas.{header-left}
-use Rattle.qcow2_apply_laws.proofs.laws.an_image_has_the_header_that_edits_leave.Goals as goal
-
-pub returns : goal.returns
-returns c = header-left

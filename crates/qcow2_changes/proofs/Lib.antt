@@ -1,6 +1,0 @@
-pub mod ChangedClustersLemmas
-pub mod ChangesLemmas
-pub mod CounterTablesLemmas
-mod OrderExamples
-pub mod OrderLemmas
-pub mod PlannedChangesLemmas

@@ -1,4 +1,0 @@
-pub mod ChangedClusters
-pub mod Changes
-pub mod CounterTables
-pub mod PlannedChanges

@@ -1,4 +1,0 @@
-mod PictureExamples
-pub mod ImageLemmas
-pub mod PictureLemmas
-pub mod ShadesLemmas
