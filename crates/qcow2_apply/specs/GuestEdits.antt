@@ -1,6 +1,5 @@
 -- Which edits of L2 tables is an edit of a guest's disk?
 use Rattle.std.specs.Prelude.{ℕ, Bool, true, false, not, if◌then◌else◌, Option, None, Some, option_map, ◌+◌, ◌-◌, ◌*◌, ◌/◌, ◌%◌, ◌^◌, ◌==◌, ◌&&◌, nat_lt, nat_le, max, min, List, map, flat_map}
-use Rattle.std.specs.Int.{div_ceil}
 use Rattle.std.specs.List.{list_any, position, range_with_len}
 use Rattle.std.specs.Option.{option_or}
 use Rattle.qcow2_base.specs.declared.fault.Fault.{Fault}
@@ -63,17 +62,6 @@ guest_edit_fits header edit = let cb = header.v2.cluster_bits in
 -- the position of the first edit that can't be made of a disk of this header, if there is one
 abbrev pub first_unfit_of : HeaderRecord → List GuestEdit → Option ℕ
 first_unfit_of header edits = position (λ edit. not (guest_edit_fits header edit)) edits
-
--- whether the cluster that an edit maps, if it does, is one of those of an image of this length, whose last may be cut
-abbrev pub maps_within : ℕ → ℕ → GuestEdit → Bool
-maps_within len cb (Map offset host_cluster) = nat_lt host_cluster.0 (div_ceil len (2 ^ cb))
-maps_within len cb (Zero offset length keep_allocation) = true
-maps_within len cb (Discard offset length) = true
-
--- the position of the first edit that can't be made of a disk of this header, or not in an image of this length
-abbrev pub first_unfit_within : ℕ → HeaderRecord → List GuestEdit → Option ℕ
-first_unfit_within len header edits =
-    position (λ edit. not (guest_edit_fits header edit && maps_within len header.v2.cluster_bits edit)) edits
 
 -- the edit of the entry at an index of an L2 table
 abbrev pub edit_at : GuestEdit → ℕ → Edit

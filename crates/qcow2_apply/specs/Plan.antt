@@ -1,33 +1,30 @@
 -- What will edits of a disk do to an image, and when can't they be made of it?
 use Rattle.qcow2_apply.specs.PlannedChanges.{SomeIsUncounted, AreSorted, CannotCount}
 use Rattle.qcow2_apply.specs.PlannedTables.{AreReadBy, tables_refusal, lost_before, counter_tables, ComesTo}
-use Rattle.std.specs.Prelude.{◌≡◌, ℕ, false, ◌<◌, if◌then◌else◌, List, length, IsSome, None, option_map, Result, Ok, Err}
+use Rattle.std.specs.Prelude.{◌≡◌, ℕ, false, ◌<◌, List, length, IsSome, None, Result, Ok, Err}
 use Rattle.qcow2_base.specs.Storage.{Image}
 use Rattle.qcow2_base.specs.declared.fault.Fault.{Fault}
-use Rattle.qcow2_base.specs.declared.fault.Fault.TheVariants.{BadEdit, CounterRange}
+use Rattle.qcow2_base.specs.declared.fault.Fault.TheVariants.{CounterRange}
 use Rattle.qcow2_metadata.specs.Header.{HeaderRecord, geometry_of, uses_external_data}
 use Rattle.qcow2_metadata.specs.Results.{and_then, unless_refused}
 use Rattle.qcow2_metadata.specs.Table.{TableState}
 use Rattle.qcow2_check.specs.Counters.{CountersState, block_of_cluster, blocks_fault, counters_each, placed_reftable}
 use Rattle.qcow2_check.specs.FileEnd.{tables_in_file}
-use Rattle.qcow2_check.specs.L1Length.{short_l1_refusal}
 use Rattle.qcow2_check.specs.NamedTables.{loaded_l1_table}
 use Rattle.qcow2_check.specs.Uses.{ImageTables, image_tables}
 use Rattle.qcow2_apply.specs.ChangedClusters.{ListsChanges}
 use Rattle.qcow2_apply.specs.Changes.{losses_of}
 use Rattle.qcow2_apply.specs.EditsByTable.{IsByTable}
-use Rattle.qcow2_apply.specs.GuestEdits.{edits_refusal, first_unfit_within}
+use Rattle.qcow2_apply.specs.GuestEdits.{edits_refusal}
 use Rattle.qcow2_apply.specs.Tables.{AllFit}
 use Rattle.qcow2_apply.specs.declared.changes.Changes.{Changes}
 use Rattle.qcow2_apply.specs.declared.plan.Plan.{Plan}
 use Rattle.qcow2_apply.specs.declared.guest_edits.GuestEdit.{GuestEdit}
 
--- why edits can't be made of an image with this header and of this length, if they can't: the L1 table is too short, the first
--- edit that doesn't fit the disk or maps a cluster past the end, or a table past the end. With an external data file clusters
--- lie elsewhere, and the edits are refused for that
+-- why edits can't be made of an image with this header and of this length, if they can't: they can't be made of any disk of
+-- this header, or a table or block lies past the end
 abbrev pub edits_within : HeaderRecord → List GuestEdit → ℕ → Image → Result (Unit {0}) Fault
-edits_within header edits len image = unless_refused (short_l1_refusal header) (if uses_external_data header then Ok tt
-    else unless_refused (option_map BadEdit (first_unfit_within len header edits)) (tables_in_file len header image))
+edits_within header edits len image = unless_refused (edits_refusal header edits) (tables_in_file len header image)
 
 -- the tables that edits are made by, or the first refusal but for counters that can't follow
 abbrev pub planned_tables : HeaderRecord → List GuestEdit → Image → Result ImageTables Fault

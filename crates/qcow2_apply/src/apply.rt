@@ -107,11 +107,13 @@ impl Plan {
 ///
 /// All is looked at first, and refused where something can't be: by 41 where the L1 table is too short for
 /// the disk; by 36 with an external data file; by 32 and the position of the first edit that doesn't fit the
-/// disk or maps a cluster past the image's end; by the faults of `refuse_tables_past_end`; by 27 for zeros in
-/// version 2; by the faults of the L1 table and of the refcount table. Then by table, in their order: by 23 where there is none, but for discards; by 40 and the position of the first of
-/// its edits where its counter isn't 1 or its L1 entry isn't copied; by those of its load; for a mapped
-/// cluster by 23 where it has no counter, and by 32 where that isn't 0 or another edit maps it. Last by 30
-/// where a counter can't follow.
+/// disk; by 27 for zeros in version 2; by the faults of the L1 table and of the refcount table, and by 21
+/// where the image ends before a table or block that it names, as `refuse_tables_past_end` of `qcow2_check`
+/// says. Then by table, in their order: by 23 where there is none, but for discards; by 40 and the position
+/// of the first of its edits where its counter isn't 1 or its L1 entry isn't copied; by those of its load;
+/// for a mapped cluster by 23 where it has no counter, and by 32 where that isn't 0 or another edit maps it.
+/// Last by 30 where a counter can't follow. Whether mapped clusters lie before the image's end isn't looked
+/// at.
 ///
 /// Then autoclear features are cleared, in the header too. What clusters gain is counted before tables are
 /// edited, and what they lose after that, each on the device before the next begins. So where no cluster is

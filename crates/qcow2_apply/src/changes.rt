@@ -7,8 +7,7 @@ use std::collections::BTreeMap;
 
 mod adding;
 
-pub use adding::joined;
-pub(crate) use adding::push_clusters;
+pub(crate) use adding::{joined, push_clusters};
 
 /// What clusters of an image gain and lose, by the index of the refcount block that counts them. Clauses see
 /// how often each cluster gains and loses a reference.

@@ -6,7 +6,7 @@ ghost use Rattle.qcow2_metadata.specs.Results.{unless_refused};
 ghost use Rattle.qcow2_metadata.specs.Table.{l2_entries};
 ghost use Rattle.qcow2_base.specs.Types.{IsClusterBits};
 ghost use Rattle.qcow2_apply.specs.EditsByTable.{positions_in};
-ghost use Rattle.qcow2_apply.specs.GuestEdits.{cluster_end, edit_at, edits_by, edits_in, edits_refusal, ends_after, first_cluster, first_unfit_of, guest_edit_fits, guest_length, guest_offset, has_clusters_in, is_discard, is_mappable_by, is_zeros, table_end, table_start, first_unfit_within, maps_within};
+ghost use Rattle.qcow2_apply.specs.GuestEdits.{cluster_end, edit_at, edits_by, edits_in, edits_refusal, ends_after, first_cluster, first_unfit_of, guest_edit_fits, guest_length, guest_offset, has_clusters_in, is_discard, is_mappable_by, is_zeros, table_end, table_start};
 ghost use Rattle.qcow2_apply.specs.Tables.{IsLeftBy, IsL2TableOf};
 
 use qcow2_base::{Fault, GuestCluster, GuestOffset, HostCluster, MAX_OFFSET};
@@ -147,18 +147,6 @@ impl GuestEdit {
             && self.is_mappable(header)
     }
 
-    // Whether a cluster that it maps, if it does, begins before the end of an image of this length in bytes.
-    fn maps_within(&self, header: &Header, len: u64) -> bool
-        ensures { result ≡ maps_within len header.now.v2.cluster_bits self.now }
-    {
-        match *self {
-            GuestEdit::Map { host_cluster, .. } => {
-                host_cluster.0 < len.div_ceil(1 << header.cluster_bits())
-            }
-            GuestEdit::Zero { .. } | GuestEdit::Discard { .. } => true,
-        }
-    }
-
     // The guest clusters of the range that the L2 table of an L1 entry has: the first, and the one after the
     // last.
     fn clusters_in(&self, cluster_bits: u32, l1_index: usize) -> (u64, u64)
@@ -248,19 +236,6 @@ pub fn first_unfit(header: &Header, edits: &[GuestEdit]) -> Option<usize>
         |edit: &GuestEdit| -> bool
             ensures { result ≡ not (guest_edit_fits header.entry.now edit.now) }
         { !edit.fits(header) },
-    )
-}
-
-/// The position of the first edit that can't be made of a disk of this header, or that maps a cluster past the
-/// end of an image of this length in bytes, if there is one.
-pub(crate) fn first_unfit_within(header: &Header, edits: &[GuestEdit], len: u64) -> Option<usize>
-    ensures { result ≡ first_unfit_within len header.now edits.now }
-{
-    edits.iter().position(
-        |edit: &GuestEdit| -> bool
-            ensures { result ≡ not (guest_edit_fits header.entry.now edit.now
-                && maps_within len header.entry.now.v2.cluster_bits edit.now) }
-        { !(edit.fits(header) && edit.maps_within(header, len)) },
     )
 }
 

@@ -6,11 +6,11 @@ ghost use Rattle.qcow2_check.specs.Failures.{RefusesAs};
 ghost use Rattle.qcow2_metadata.specs.Results.{Answers, IsFromOutside, unless_refused};
 ghost use Rattle.qcow2_apply.specs.Plan.{AreRead, CanBePlannedBy, IsPlanFor, IsPlanOf, RefusesEdits, edits_within};
 
-use crate::guest_edits::{check_edits, first_unfit_within};
+use crate::guest_edits::check_edits;
 use crate::planned_tables::plan_by_tables;
 use crate::{ChangedClusters, Changes, CounterTables, EditsByTable, GuestEdit};
 use qcow2_base::{Device, Fault, Storage};
-use qcow2_check::{Counters, load_l1_table, refuse_short_l1, refuse_tables_past_end};
+use qcow2_check::{Counters, load_l1_table, refuse_tables_past_end};
 use qcow2_metadata::{Header, L1Table, RefTable};
 use std::alloc::Global;
 
@@ -53,9 +53,8 @@ pub struct Plan {
     pub clusters: ChangedClusters,
 }
 
-// Refuses edits of a disk: by 41 where the L1 table is too short, by 32 and the position of the first edit
-// that doesn't fit the disk or maps a cluster past the image's end, or by the faults of tables past the end.
-// With an external data file the edits are refused later.
+// Refuses edits that can't be made of any disk of this header, or an image by the faults of
+// `refuse_tables_past_end`.
 fn refuse_past_end<S: Device>(
     alloc: Global,
     image: &mut S,
@@ -66,16 +65,7 @@ fn refuse_past_end<S: Device>(
         (edits_within header.now edits.now (S.state image.old).len bytes)) }
     ensures storage { OnlyReads result (S.state image.old) (S.state image.new) }
 {
-    refuse_short_l1(header)?;
-    if header.external_data_file() {
-        return Ok(());
-    }
-    let Some(len) = image.len()? else {
-        return Ok(());
-    };
-    if let Some(position) = first_unfit_within(header, edits, len) {
-        return Err(Fault::BadEdit(position));
-    }
+    check_edits(header, edits)?;
     refuse_tables_past_end(alloc, image, header)
 }
 
@@ -101,7 +91,7 @@ impl Plan {
         Plan::of_whole(alloc, image, header, edits)
     }
 
-    // The same of an image that has all tables and blocks which it names, and all clusters that are mapped.
+    // The same of an image that has all tables and blocks which it names.
     fn of_whole<S: Storage>(
         alloc: Global,
         image: &mut S,

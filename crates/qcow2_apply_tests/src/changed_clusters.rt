@@ -4,7 +4,7 @@ use crate::small_image::{
     BLOCK, COPIED, Numbers, OTHER_BLOCK, OTHER_TABLE, discard, header_of, map, small_image,
 };
 use qcow2_apply::{ChangedClusters, GuestEdit, KeptCluster, Plan, apply_edits};
-use qcow2_base::{ClusterCount, Fault, GuestOffset, HostCluster, MemStorage, Storage};
+use qcow2_base::{ClusterCount, Device, Fault, GuestOffset, HostCluster, MemStorage};
 use qcow2_metadata::{ClustersToFreeEntry, Header};
 use qcow2_testing::{each, recorded, same, same_image};
 use std::alloc::Global;
@@ -79,7 +79,7 @@ const CHANGED: &[Changed<'static>] = &[
     },
 ];
 
-fn planned_by<S: Storage>(
+fn planned_by<S: Device>(
     alloc: Global,
     image: &mut S,
     header: &Header,

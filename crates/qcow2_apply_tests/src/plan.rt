@@ -121,7 +121,7 @@ fn check_planned(alloc: Global, row: Planned<'_>) -> Result<(), Fail> {
     check_plan(&plan, &row)?;
     for call in &image.calls {
         same(
-            matches!(*call, StorageCall::Read { .. }),
+            matches!(*call, StorageCall::Read { .. } | StorageCall::Len),
             true,
             (row.name, *call),
         )?;

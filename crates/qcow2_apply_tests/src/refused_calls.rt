@@ -92,7 +92,9 @@ fn writes_of(alloc: Global, calls: &[StorageCall]) -> Result<Vec<StorageCall>, A
     let mut is_waited = true;
     for call in calls {
         let is_wait = *call == StorageCall::Sync;
-        if !matches!(*call, StorageCall::Read { .. }) && !(is_wait && is_waited) {
+        if !matches!(*call, StorageCall::Read { .. } | StorageCall::Len)
+            && !(is_wait && is_waited)
+        {
             writes.push(*call)?;
             is_waited = is_wait;
         }

@@ -98,7 +98,7 @@ const REPAIRS: &[StorageCall] = &[
 fn writes_of(alloc: Global, calls: &[StorageCall]) -> Result<Vec<StorageCall>, AllocError> {
     let mut writes = Vec::new(alloc);
     for call in calls {
-        if !matches!(*call, StorageCall::Read { .. }) {
+        if !matches!(*call, StorageCall::Read { .. } | StorageCall::Len) {
             writes.push(*call)?;
         }
     }

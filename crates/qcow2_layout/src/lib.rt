@@ -1,5 +1,5 @@
 //! What each host cluster of an image is: a part of its tables, guest data, leaked or free. As runs of
-//! clusters.
+//! clusters, and as a picture: squares in rows, each with the colour of the most severe content in it.
 #![tactic(auto)]
 
 pub mod laws;

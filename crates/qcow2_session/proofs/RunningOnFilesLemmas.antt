@@ -1,8 +1,8 @@
-use Rattle.std.proofs.Common.{◌≡◌, ◌≤◌, ℕ, Bool, List, [], ◌∷◌, ◌-◌, drop, take, take_all, length, get_or, false, Option, None, Some, Result, Ok, Err, inl, inr, refl, subst, sym, arith, IfSome}
+use Rattle.std.proofs.Common.{◌≡◌, ◌≢◌, ◌≤◌, ◌⊎◌, ℕ, Bool, List, [], ◌∷◌, ◌-◌, drop, take, take_all, length, get_or, false, Option, None, Some, Result, Ok, Err, inl, inr, refl, subst, sym, arith, IfSome}
 use Rattle.std.specs.Bool.{IsTrue}
 use Rattle.std.specs.Io.KnownBytes.{Keeps}
-use Rattle.std.specs.Result.{IfOk, IsErr, MatchResult}
-use Rattle.qcow2_base.specs.Storage.{StorageState}
+use Rattle.std.specs.Result.{IfErr, IfOk, IsErr, MatchResult}
+use Rattle.qcow2_base.specs.Storage.{OnImage, OnlyReads, StorageState}
 use Rattle.qcow2_base.specs.Storage.File.{failures_of, file_of, file_state, state_over}
 use Rattle.qcow2_base.specs.Storage.ImageFile.{FileContent, OnFile}
 use Rattle.qcow2_base.specs.Storage.ImageFiles.{ChangesOne, ClosesImage, FailsFor, PathFile}
@@ -10,24 +10,55 @@ use Rattle.qcow2_base.specs.declared.fault.Fault.{Fault}
 use Rattle.qcow2_base.specs.declared.fault.Fault.TheVariants.{NoMemory, Storage}
 use Rattle.qcow2_base.specs.declared.storage.file.FileStorage.{FileStorage}
 use Rattle.qcow2_metadata.specs.Header.{HeaderRecord}
-use Rattle.qcow2_session.proofs.PrintingLemmas.{run_between}
+use Rattle.qcow2_session.proofs.PrintingLemmas.{reads-calm, run_between}
 use Rattle.qcow2_session.specs.Commands.{command_by_name, command_of, facts_of, image_name}
+use Rattle.qcow2_session.specs.Commands.Apply.{maps_refusal}
 use Rattle.qcow2_session.specs.Commands.Printing.{AppendsPart, OutputBytes}
 use Rattle.qcow2_session.specs.Commands.Report.{ReportsFault, fault_line}
-use Rattle.qcow2_session.specs.Commands.RunningOnFiles.{RunsLine, RunsOnFile, RunsWords, StopsOrEnds, told_beside}
+use Rattle.qcow2_session.specs.Commands.RunningOnFiles.{ComparesWithEnd, FitsEnd, IsRefusedByEnd, RefusesBy, RunsLine, RunsOnFile, RunsWords, StopsOrEnds, told_beside}
 use Rattle.qcow2_session.specs.Commands.Running.{AfterHeader, EndsAndFlushes, FindsHeader}
 use Rattle.qcow2_check.specs.Verdict.{status_of_verdict}
 use Rattle.qcow2_session.specs.Commands.Words.{Word, WordList}
 use Rattle.qcow2_session.specs.declared.commands.Command.{Command}
+use Rattle.qcow2_session.specs.declared.commands.Command.TheVariants.{Apply}
+use Rattle.qcow2_session.specs.declared.commands.apply.ApplyForm.{ApplyForm}
+use Rattle.qcow2_session.specs.declared.commands.apply.DiskEdit.{DiskEdit}
 use Rattle.qcow2_check.specs.declared.verdict.Verdict.{Verdict}
 use Rattle.qcow2_check.specs.declared.verdict.Verdict.TheVariants.{Fine}
 
--- a run found its header, and stopped before its command, since memory for pages ran out
-pub stopped-before : {O : Type 0} (command : Command) (header : HeaderRecord) (contents : O → OutputBytes) (old left : StorageState) (out : O)
-    → FindsHeader (facts_of command) (Ok header) old left → IsTrue (facts_of command).reads_all_tables
-    → AfterHeader (facts_of command) (StopsOrEnds command) (run_between contents (Err NoMemory) old left out out)
-stopped-before command header contents old left out finds all =
-    (Ok header, left, finds, inl (record { fault = refl; reads_all_tables = all; image = refl; output = refl }))
+-- a run found its header, and stopped before its command
+pub stopped-before : {O : Type 0} (command : Command) (header : HeaderRecord) (fault : Fault) (contents : O → OutputBytes) (old left new : StorageState) (out : O)
+    → FindsHeader (facts_of command) (Ok header) old left
+    → ((fault ≡ NoMemory) × IsTrue (facts_of command).reads_all_tables) ⊎ IsRefusedByEnd command header left fault
+    → OnlyReads {T = Verdict} (Err fault) left new
+    → AfterHeader (facts_of command) (StopsOrEnds command) (run_between contents (Err fault) old new out out)
+stopped-before command header fault contents old left new out finds why reads =
+    (Ok header, left, finds, inl (record { fault = why; reads = reads; output = refl }))
+
+-- calls that only read and didn't fail leave a storage as it was
+pub unmoved : {T : Type 0} (value : T) (old new : StorageState) → OnlyReads (Ok value) old new → new ≡ old
+unmoved value old new reads = grind (arith, reads.device, reads.bytes, reads.len, reads-calm value old new reads)
+
+-- the fault of reads is that of what they were made for
+pub same-reads : {A B : Type 0} (fault : Fault) (old new : StorageState) → OnlyReads {T = A} (Err fault) old new → OnlyReads {T = B} (Err fault) old new
+same-reads fault old new reads = record { told = grind (arith, reads.told); bytes = reads.bytes; len = reads.len; device = reads.device }
+
+-- no call was made
+pub unread : {T : Type 0} (fault : Fault) (state : StorageState) → fault ≢ Storage → OnlyReads {T = T} (Err fault) state state
+unread fault state other = record {
+  told = grind (arith, other);
+  bytes = refl;
+  len = refl;
+  device = record { tells = refl; mem_align = refl; req_align = refl };
+}
+
+-- edits were compared with the image's end
+pub maps-compared : (form : ApplyForm) (edits : List DiskEdit) (header : HeaderRecord) (state : StorageState) (answer : Result (Unit {0}) Fault)
+    → IfErr answer (λ fault. (fault ≡ Storage) ⊎ ((len : ℕ) × (maps_refusal edits header len ≡ Some fault)))
+    → OnImage state (λ _. RefusesBy (maps_refusal edits header state.len) answer)
+    → ComparesWithEnd (Apply form edits) header state answer
+maps-compared form edits header state (Ok done) refusal known = known
+maps-compared form edits header state (Err fault) refusal known = record { refusal = refusal; known = known }
 
 -- what a run came to is a fault too once it is told beside other programs, if it was one
 pub placed-beside : (Kept : Type 0) (found : Option Fault) (ran told : Result Verdict Fault) → (IsErr ran → IsErr told) → IfSome found (λ _. IsErr ran × Kept)
@@ -38,15 +69,15 @@ placed-beside Kept (Some fault) ran told errs held = (errs held.0, held.1)
 -- or its command ran, over what the header left, and what it left is the image
 pub ran-between : {O : Type 0} (command : Command) (header : HeaderRecord) (answer : Result Verdict Fault) (contents : O → OutputBytes)
     (old left begun ended new : StorageState) (before after : O)
-    → FindsHeader (facts_of command) (Ok header) old left → begun ≡ left → new ≡ ended
+    → FindsHeader (facts_of command) (Ok header) old left → FitsEnd command header left → begun ≡ left → new ≡ ended
     → EndsAndFlushes (facts_of command) header (run_between contents answer begun ended before after)
     → AfterHeader (facts_of command) (StopsOrEnds command) (run_between contents answer old new before after)
-ran-between command header answer contents old left begun ended new before after finds same last ends =
+ran-between command header answer contents old left begun ended new before after finds fits same last ends =
     rw last (
       Ok header,
       left,
       finds,
-      inr (subst (λ (s : StorageState). EndsAndFlushes (facts_of command) header (run_between contents answer s ended before after)) same ends),
+      inr (fits, subst (λ (s : StorageState). EndsAndFlushes (facts_of command) header (run_between contents answer s ended before after)) same ends),
     )
 
 -- the file of a path could not be opened

@@ -56,7 +56,7 @@ pub fn step_image<S: Storage>(
 }
 
 /// `qcow2_session::Plan::new`.
-pub fn plan_edits<S: Storage>(
+pub fn plan_edits<S: Device>(
     alloc: Global,
     image: &mut S,
     header: &Header,

@@ -1,9 +1,8 @@
 //! The calls that are tested, without their clauses.
 
 use qcow2_base::{Fault, Storage};
-use qcow2_layout::{Layout, Run};
+use qcow2_layout::{Layout, Run, Shape, picture_of};
 use qcow2_metadata::Header;
-use qcow2_layout::{Shape, picture_of};
 use std::alloc::Global;
 
 /// All runs of an image, in order, the first hundred of them at most. Where a read is refused, the reader is

@@ -72,7 +72,7 @@ pub(super) fn step_in<S: Storage>(held: &mut Held, image: &mut S) -> Result<(), 
     tell(&mut held.out, &replies)
 }
 
-pub(super) fn plan<S: Storage>(held: &mut Held, image: &mut S) -> Result<(), Fault> {
+pub(super) fn plan<S: Device>(held: &mut Held, image: &mut S) -> Result<(), Fault> {
     let plan = plan_edits(held.alloc, image, &held.header, DISK_EDITS)?;
     tell(&mut held.out, &plan.clusters)
 }

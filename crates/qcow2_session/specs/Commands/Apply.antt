@@ -1,18 +1,22 @@
 -- What does the command `apply` print, and what does it leave?
-use Rattle.std.specs.Prelude.{◌≡◌, ◌⊎◌, ℕ, if◌then◌else◌, ◌^◌, nat_lt, nat_le, Bool, true, false, ◌&&◌, List, [], ◌∷◌, ◌++◌, length, take, drop, map, Option, Some, None, option_map, Result, Err, MatchResult, bytes_eq, flat_map, codes}
-use Rattle.std.specs.List.{list_all}
+use Rattle.std.specs.Prelude.{◌≡◌, ◌⊎◌, ℕ, ◌^◌, nat_lt, nat_le, Bool, true, false, not, ◌&&◌, if◌then◌else◌, List, [], ◌∷◌, ◌++◌, length, take, drop, map, Option, Some, None, option_map, Result, Err, MatchResult, bytes_eq, flat_map, codes}
+use Rattle.std.specs.List.{list_all, position}
 use Rattle.std.specs.Char.{digit_value}
 use Rattle.std.specs.Fmt.{decimal}
+use Rattle.std.specs.Int.{div_ceil}
+use Rattle.std.specs.Option.{option_or}
 use Rattle.std.specs.Str.Parse.{digits_value}
 use Rattle.qcow2_base.specs.Storage.{Image, OnImage, OnImages, StorageState}
 use Rattle.qcow2_base.specs.declared.fault.Fault.{Fault}
-use Rattle.qcow2_base.specs.declared.fault.Fault.TheVariants.{NoMemory}
+use Rattle.qcow2_base.specs.declared.fault.Fault.TheVariants.{BadEdit, NoMemory}
 use Rattle.qcow2_check.specs.Failures.{RefusesAs, ReportsFailures}
+use Rattle.qcow2_check.specs.L1Length.{short_l1_refusal}
 use Rattle.qcow2_edits.specs.Edits.{cluster_numbers}
-use Rattle.qcow2_metadata.specs.Header.{HeaderRecord}
+use Rattle.qcow2_metadata.specs.Header.{HeaderRecord, uses_external_data}
 use Rattle.qcow2_metadata.specs.Header.BitmapCount.{consistent_bitmaps}
 use Rattle.qcow2_metadata.specs.Results.{IsFromOutside}
 use Rattle.qcow2_apply.specs.Apply.{EditsDisk}
+use Rattle.qcow2_apply.specs.GuestEdits.{guest_edit_fits}
 use Rattle.qcow2_apply.specs.Plan.{IsPlanOf, RefusesEdits, edits_within}
 use Rattle.qcow2_apply.specs.declared.changed_clusters.ChangedClusters.{ChangedClusters}
 use Rattle.qcow2_apply.specs.declared.changed_clusters.KeptCluster.{KeptCluster}
@@ -93,6 +97,28 @@ guest_edit cluster_size (DiscardCluster offset) = Discard offset cluster_size
 -- the edits that some are of a disk of this header
 abbrev pub guest_edits : HeaderRecord → List DiskEdit → List GuestEdit
 guest_edits header edits = map (guest_edit (2 ^ header.v2.cluster_bits)) edits
+
+-- whether the cluster that an edit maps, if it does, is one of those of an image of this length, whose last may be cut
+abbrev pub maps_within : ℕ → ℕ → GuestEdit → Bool
+maps_within len cb (Map offset host_cluster) = nat_lt host_cluster.0 (div_ceil len (2 ^ cb))
+maps_within len cb (Zero offset length keep_allocation) = true
+maps_within len cb (Discard offset length) = true
+
+-- whether an edit fits the disk of this header, and its image of this length
+abbrev pub fits_within : ℕ → HeaderRecord → DiskEdit → Bool
+fits_within len header edit = let of_disk = guest_edit (2 ^ header.v2.cluster_bits) edit in
+    guest_edit_fits header of_disk && maps_within len header.v2.cluster_bits of_disk
+
+-- the position of the first edit that doesn't
+abbrev pub first_unfit_within : ℕ → HeaderRecord → List DiskEdit → Option ℕ
+first_unfit_within len header edits = position (λ edit. not (fits_within len header edit)) edits
+
+-- why edits can't be made of the disk of an image with this header and of this length, if they can't, whatever its tables are:
+-- the L1 table is too short, or the first edit that doesn't fit the disk or maps a cluster past the end. With an external data
+-- file clusters lie elsewhere, and the edits are refused for that
+abbrev pub maps_refusal : List DiskEdit → HeaderRecord → ℕ → Option Fault
+maps_refusal edits header len = option_or (short_l1_refusal header)
+    (if uses_external_data header then None else option_map BadEdit (first_unfit_within len header edits))
 
 -- the line of a cluster that lost a reference and has others: with its counter
 abbrev pub kept_line : KeptCluster → List ℕ

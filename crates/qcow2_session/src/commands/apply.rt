@@ -1,6 +1,6 @@
 //! The command `apply`: edits of ranges of the guest's disk, with the counters of clusters.
 
-ghost use Rattle.std.specs.Prelude.{◌≡◌, ◌++◌, IfOk, false, map, string_bytes};
+ghost use Rattle.std.specs.Prelude.{◌≡◌, ◌++◌, IfOk, false, map, not, string_bytes};
 ghost use Rattle.qcow2_base.specs.Storage.{OnImage, OnImages, OnlyReads};
 ghost use Rattle.qcow2_metadata.specs.Header.{HeaderRecord};
 ghost use Rattle.qcow2_check.specs.Failures.{RefusesAs, ReportsFailures};
@@ -49,6 +49,23 @@ impl DiskEdit {
                 offset,
                 length: cluster_size as u64,
             },
+        }
+    }
+
+    // Whether it fits the disk of an image with this header and this length in bytes, and a cluster that it
+    // maps begins before the image's end.
+    fn fits_within(&self, header: &Header, len: u64) -> bool
+        ensures { result ≡ spec.fits_within len header.now self.now }
+    {
+        let edit = self.guest_edit(header.cluster_size());
+        if !edit.fits(header) {
+            return false;
+        }
+        match edit {
+            GuestEdit::Map { host_cluster, .. } => {
+                host_cluster.0 < len.div_ceil(1 << header.cluster_bits())
+            }
+            GuestEdit::Zero { .. } | GuestEdit::Discard { .. } => true,
         }
     }
 }
@@ -142,6 +159,18 @@ fn planned_clusters<S: Device>(
 {
     let plan = Plan::new(alloc, image, header, edits)?;
     Ok(plan.clusters)
+}
+
+/// The position of the first edit that doesn't fit the disk of an image with this header and this length in
+/// bytes, or maps a cluster past the image's end, if there is one.
+pub(super) fn first_unfit_within(header: &Header, edits: &[DiskEdit], len: u64) -> Option<usize>
+    ensures { result ≡ spec.first_unfit_within len header.now edits.now }
+{
+    edits.iter().position(
+        |edit: &DiskEdit| -> bool
+            ensures { result ≡ not (spec.fits_within len header.entry.now edit.now) }
+        { !edit.fits_within(header, len) },
+    )
 }
 
 // The edits that some are of a disk of this header.

@@ -1,22 +1,24 @@
 //! Running a command over its image, and the whole program.
 
-ghost use Rattle.std.specs.Prelude.{◌≡◌, ◌≤◌, ◌↔◌, None, Ok, Err, false, map, string_bytes, IsErr, IsOkUnless, IfOk, IfSome, OnErr, OnOk, MatchResult};
+ghost use Rattle.std.specs.Prelude.{◌≡◌, ◌≤◌, ◌↔◌, None, Ok, Err, false, map, string_bytes, IsErr, IsOkUnless, IfOk, IfSome, OnErr, OnOk, MatchResult, ◌⊎◌, ℕ, Some, IfErr};
 ghost use Rattle.std.specs.Io.KnownBytes.{Keeps};
+ghost use Rattle.qcow2_base.specs.Storage.{OnImage, OnlyReads};
 ghost use Rattle.qcow2_base.specs.Storage.File.{file_state};
 ghost use Rattle.qcow2_base.specs.Storage.ImageFiles.{ChangesOne};
 ghost use Rattle.qcow2_base.specs.declared.fault.Fault.TheVariants.{Storage as StorageFailed};
 ghost use Rattle.qcow2_check.specs.Verdict.{status_of_verdict};
 ghost use Rattle.qcow2_check.specs.declared.verdict.Verdict.TheVariants.{Fine};
 ghost use Rattle.qcow2_session.specs.Commands.{AskForNothing, command_by_name, command_of, facts_of, image_name};
+ghost use Rattle.qcow2_session.specs.Commands.Apply.{maps_refusal};
 ghost use Rattle.qcow2_session.specs.Commands.Explain.{PrintsExplained, explained_text};
 ghost use Rattle.qcow2_session.specs.Commands.Help.{PrintsAsked, asked_text, text_of};
 ghost use Rattle.qcow2_session.specs.Commands.Printing.{AppendsPart, PrintsLast, run_over};
 ghost use Rattle.qcow2_session.specs.Commands.Report.{Reports, fault_line};
-ghost use Rattle.qcow2_session.specs.Commands.RunningOnFiles.{RunsOnFile, RunsWords, StopsOrEnds, told_beside};
+ghost use Rattle.qcow2_session.specs.Commands.RunningOnFiles.{ComparesWithEnd, RefusesBy, RunsOnFile, RunsWords, StopsOrEnds, told_beside};
 ghost use Rattle.qcow2_session.specs.Commands.Running.{AfterHeader, EndsAndFlushes, FindsHeader, IsHeaderFor, Runs, fine_unless_failed};
 
 use super::Command;
-use super::apply::edit_disk;
+use super::apply::{DiskEdit, edit_disk, first_unfit_within};
 use super::at::print_mapping_at;
 use super::check::check_in_form;
 use super::count::count_and_wait;
@@ -34,7 +36,7 @@ use super::tables::print_tables;
 use crate::lines::print;
 use qcow2_base::{Device, Fault, FileStorage, ImageFile, ImageFiles, Storage};
 use qcow2_buffered::BufferedStorage;
-use qcow2_check::Verdict;
+use qcow2_check::{Verdict, refuse_short_l1};
 use qcow2_metadata::Header;
 use std::alloc::Global;
 use std::io;
@@ -201,10 +203,13 @@ fn status_of<E: Write>(ran: Result<Verdict, Fault>, err: &mut E) -> u8
 /// Opens the image of a path, for writing where the command may change it, runs the command over it, and
 /// closes it. What it prints is flushed, also before a fault. One that reads all tables reads them in pages.
 ///
-/// Returns 34 where the file can't be opened, and 35 where memory runs out for the pages, before anything is
-/// printed. Else it returns what `run` does, and 34 where the flush fails. No other file changes, unless it
-/// is the same one. Where `files` say that another program came to the image, 39 comes in place of 34: a part
-/// of what was asked may be done then.
+/// Returns 34 where the file can't be opened; 35 where memory runs out for the pages. `apply` returns 41 where
+/// the L1 table is too short, and if the image has the data 32 and the position of the first edit that
+/// doesn't fit the disk or maps a cluster past the image's end. A regular file and a block device have an
+/// end. After these nothing is printed, and the file is as it was, but for what the load of the header wrote.
+/// Else it returns what `run` does, and 34 where the flush fails. No other file changes, unless it is the
+/// same one. Where `files` say that another program came to the image, 39 comes in place of 34: a part of
+/// what was asked may be done then.
 pub fn run_on_file<R: ImageFiles, O: Write>(
     alloc: Global,
     files: &mut R,
@@ -255,6 +260,9 @@ fn run_in_file<F: ImageFile, O: Write>(
         Ok(header) => header,
         Err(fault) => return (image, Err(fault)),
     };
+    if let Err(fault) = compare_with_end(&mut image, &header, command) {
+        return (image, Err(fault));
+    }
     if !command.reads_all_tables() {
         let ran = run_and_flush(alloc, &mut image, header, command, out);
         return (image, ran);
@@ -265,6 +273,49 @@ fn run_in_file<F: ImageFile, O: Write>(
             (pages.into_inner(), ran)
         }
         Err(image) => (image, Err(Fault::NoMemory)),
+    }
+}
+
+// Refuses edits of a disk that map clusters past the image's end, if that is known. What doesn't fit the disk
+// is refused with them, by the first.
+fn compare_with_end<S: Device>(
+    image: &mut S,
+    header: &Header,
+    command: &Command,
+) -> Result<(), Fault>
+    ensures compares { ComparesWithEnd command.now header.now (S.state image.old) result }
+    ensures reads { OnlyReads result (S.state image.old) (S.state image.new) }
+{
+    match command {
+        Command::Apply { edits, .. } => refuse_maps_past_end(image, header, edits.as_slice()),
+        _ => Ok(()),
+    }
+}
+
+// Refuses edits of a disk by 41 where the L1 table is too short, and by 32 and the position of the first that
+// doesn't fit the disk or maps a cluster past the image's end. With an external data file the edits are
+// refused later.
+fn refuse_maps_past_end<S: Device>(
+    image: &mut S,
+    header: &Header,
+    edits: &[DiskEdit],
+) -> Result<(), Fault>
+    ensures refusal { IfErr result (λ fault. (fault ≡ StorageFailed)
+        ⊎ ((len : ℕ) × (maps_refusal edits.now header.now len ≡ Some fault))) }
+    ensures known { OnImage (S.state image.old) (λ _. RefusesBy
+        (maps_refusal edits.now header.now (S.state image.old).len) result) }
+    ensures reads { OnlyReads result (S.state image.old) (S.state image.new) }
+{
+    refuse_short_l1(header)?;
+    if header.external_data_file() {
+        return Ok(());
+    }
+    let Some(len) = image.len()? else {
+        return Ok(());
+    };
+    match first_unfit_within(header, edits, len) {
+        Some(position) => Err(Fault::BadEdit(position)),
+        None => Ok(()),
     }
 }
 

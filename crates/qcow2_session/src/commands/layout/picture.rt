@@ -8,8 +8,8 @@ ghost use Rattle.qcow2_session.specs.Commands.Printing.{PrintsLast, PrintsText, 
 
 use crate::lines::{LineBuffer, ToLine, print, print_lines};
 use qcow2_base::{ClusterCount, Fault, Storage};
-use qcow2_metadata::Header;
 use qcow2_layout::{COLUMNS, Shape, picture_of};
+use qcow2_metadata::Header;
 use std::alloc::Global;
 use std::io::Write;
 
