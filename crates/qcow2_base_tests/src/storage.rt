@@ -157,7 +157,11 @@ fn a_length_is_asked_for_and_a_failed_question_is_counted(rt: HostRuntime) -> Re
     let mut storage = FailingStorage::new(rt.alloc(), memory(rt.alloc(), &[1, 2, 3])?);
     storage.plan = Some(1);
     let answers = (storage.len(), storage.len(), storage.len());
-    same(answers, (Ok(Some(3)), Err(StorageFault), Ok(Some(3))), "three calls")?;
+    same(
+        answers,
+        (Ok(Some(3)), Err(StorageFault), Ok(Some(3))),
+        "three calls",
+    )?;
     same(storage.failures, 1, "failures")?;
     write(&mut storage, &[7, 8], 3)?;
     same(storage.len(), Ok(Some(5)), "after a write")?;

@@ -1,4 +1,4 @@
-use Rattle.std.proofs.Common.{◌≡◌, ◌≢◌, ℕ, ◌^◌, ◌<◌, ◌≤◌, nat_lt, true, Option, List, [], ◌∷◌, length, get_or, None, Result, Ok, Err, inl, inr, refl, arith}
+use Rattle.std.proofs.Common.{◌≡◌, ◌≢◌, ℕ, ◌^◌, ◌<◌, ◌≤◌, nat_lt, true, Option, List, [], ◌∷◌, length, get_or, Result, Ok, Err, inl, inr, refl, arith}
 use Rattle.std.proofs.lemmas.Bool.{cases_Bool, cases_lt}
 use Rattle.std.proofs.lemmas.Bool.Decides.{nat_tests}
 use Rattle.std.proofs.lemmas.Int.Digits.{digits_value-lt}
@@ -13,7 +13,6 @@ use Rattle.std.specs.List.{list_all}
 use Rattle.std.specs.Str.Parse.{AllDigits, ParsesUnsigned, digits_value}
 use Rattle.qcow2_check.proofs.FlagsLemmas.{guest_offset_fits}
 use Rattle.qcow2_session.proofs.ListingLemmas.{table_lines-more}
-use Rattle.qcow2_session.specs.Commands.{command_of}
 use Rattle.qcow2_session.specs.Commands.Apply.{hexadecimal}
 use Rattle.qcow2_session.specs.Commands.Words.{word_number}
 
@@ -30,17 +29,9 @@ number_of_parsed E word (Ok n) plain short extension_from_data =
 number_of_parsed E word (Err e) plain short extension_from_data =
     grind (arith, nat_tests, parse_plain digits {E = E} 64 word (Err e) extension_from_data plain)
 
--- a command has a name and an image
-pub too_few_words : (words : List (List ℕ)) → length words < 2 → command_of words ≡ None
-too_few_words words few = grind (arith, few)
-
 -- what holds where there is a place's fault, and what follows from it
 pub IfSome-follows : {X : Type 0} {P Q : X → Type 0} (found : Option X) → ((x : X) → P x → Q x) → IfSome found P → IfSome found Q
 IfSome-follows found follows holds = grind (arith, follows, holds)
-
--- what holds of a value that isn't there
-pub IfSome-none : {X : Type 0} (P : X → Type 0) (found : Option X) → found ≡ None → IfSome found P
-IfSome-none P found none = rw none tt
 
 -- a fault of its own is what a run returns
 pub own-refused : {T : Type 0} (ran answer : Result T Fault) → IsErr ran → OnErr ran (answer ≡ ran) → IsErr answer

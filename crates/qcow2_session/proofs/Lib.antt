@@ -10,7 +10,6 @@ pub mod EditedEntryLemmas
 pub mod EditedImageLemmas
 pub mod EditedReadsLemmas
 pub mod EditedTableLemmas
-pub mod ExplainLemmas
 pub mod HarmLemmas
 pub mod HelpLemmas
 pub mod HexLemmas
@@ -20,9 +19,11 @@ pub mod MapLemmas
 pub mod OutputLemmas
 pub mod PictureLemmas
 pub mod PrintingLemmas
+pub mod ProgramLemmas
 pub mod RefcountLemmas
 pub mod RepairedDiskLemmas
 pub mod ReportLemmas
+pub mod RequestLemmas
 pub mod RunningLemmas
 pub mod RunningOnFilesLemmas
 pub mod RunsLemmas

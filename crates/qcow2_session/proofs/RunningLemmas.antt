@@ -1,5 +1,5 @@
 use Rattle.std.proofs.lemmas.Bool.Decides.{nat_tests}
-use Rattle.std.proofs.Common.{◌≡◌, ◌≢◌, ◌⊎◌, ℕ, ◌∙◌, false, Option, None, Some, Result, Ok, Err, inl, inr, refl, sym, arith}
+use Rattle.std.proofs.Common.{◌≡◌, ◌⊎◌, ℕ, false, Option, None, Some, Result, Ok, Err, inl, inr, refl, arith}
 use Rattle.std.specs.Bool.{IsTrue}
 use Rattle.std.specs.Result.{IsOk, MatchResult, OnErr, OnOk}
 use Rattle.qcow2_base.specs.Storage.{StorageState}
@@ -11,12 +11,9 @@ use Rattle.qcow2_metadata.specs.Header.Open.{header_after_load}
 use Rattle.qcow2_metadata.specs.Results.{Answers}
 use Rattle.qcow2_session.proofs.PrintingLemmas.{run_between}
 use Rattle.qcow2_session.specs.Commands.Facts.{CommandFacts}
-use Rattle.qcow2_session.specs.Commands.Printing.{AppendsPart, OutputBytes, PrintsLast, Run}
-use Rattle.qcow2_session.specs.Commands.Report.{Reports, fault_line}
+use Rattle.qcow2_session.specs.Commands.Printing.{OutputBytes, PrintsLast, Run}
 use Rattle.qcow2_session.specs.Commands.Running.{FindsHeader, IsHeaderFor, Runs}
-use Rattle.qcow2_check.specs.Verdict.{status_of_verdict}
 use Rattle.qcow2_check.specs.declared.verdict.Verdict.{Verdict}
-use Rattle.qcow2_check.specs.declared.verdict.Verdict.TheVariants.{Fine, Harmful, Harmless}
 
 -- a command ran with the header that it found
 pub runs-with : {O : Type 0} (facts : CommandFacts) (header : HeaderRecord) (run : Run Verdict O) (left : StorageState)
@@ -60,30 +57,3 @@ pub answer-flushed : {E : Type 0} (ran answer : Result Verdict Fault) (flushed :
 answer-flushed (Ok verdict) answer (Ok done) own flush = inl flush
 answer-flushed (Ok verdict) answer (Err error) own flush = inr (refl, flush)
 answer-flushed (Err fault) answer flushed own flush = inl own
-
--- no verdict has the status of a fault, or that of wrong words
-never-one : (verdict : Verdict) → status_of_verdict verdict ≢ 1
-never-one Fine is = absurd (omega (arith, is))
-never-one Harmless is = absurd (omega (arith, is))
-never-one Harmful is = absurd (omega (arith, is))
-
-never-two : (verdict : Verdict) → status_of_verdict verdict ≢ 2
-never-two Fine is = absurd (omega (arith, is))
-never-two Harmless is = absurd (omega (arith, is))
-never-two Harmful is = absurd (omega (arith, is))
-
--- what is on standard error, by the status of a run
-pub reports-run : {E : Type 0} (ran : Result Verdict Fault) (status : ℕ) (contents : E → OutputBytes) (old new : E)
-    → MatchResult ran (λ verdict. status ≡ status_of_verdict verdict) (λ _. status ≡ 1)
-    → MatchResult ran (λ _. new ≡ old) (λ fault. AppendsPart (contents old) (contents new) (fault_line fault))
-    → Reports status contents old new
-reports-run (Ok verdict) status contents old new is line = record {
-  verdict = λ no_fault words. line;
-  fault = λ one. absurd (never-one verdict (sym is ∙ one));
-  wrong_words = λ two. absurd (never-two verdict (sym is ∙ two));
-}
-reports-run (Err fault) status contents old new is line = record {
-  verdict = λ no_fault words. absurd (no_fault is);
-  fault = λ _. (fault, line);
-  wrong_words = λ two. absurd (omega (arith, is, two));
-}

@@ -1,7 +1,6 @@
-use Rattle.std.proofs.Common.{◌≡◌, ◌≢◌, ◌≤◌, ◌⊎◌, ℕ, Bool, List, [], ◌∷◌, ◌-◌, drop, take, take_all, length, get_or, false, Option, None, Some, Result, Ok, Err, inl, inr, refl, subst, sym, arith, IfSome}
+use Rattle.std.proofs.Common.{◌≡◌, ◌≢◌, ◌⊎◌, ℕ, Bool, List, ◌-◌, false, Option, None, Some, Result, Ok, Err, inl, inr, refl, subst, sym, arith, IfSome}
 use Rattle.std.specs.Bool.{IsTrue}
-use Rattle.std.specs.Io.KnownBytes.{Keeps}
-use Rattle.std.specs.Result.{IfErr, IfOk, IsErr, MatchResult}
+use Rattle.std.specs.Result.{IfErr, IsErr}
 use Rattle.qcow2_base.specs.Storage.{OnImage, OnlyReads, StorageState}
 use Rattle.qcow2_base.specs.Storage.File.{failures_of, file_of, file_state, state_over}
 use Rattle.qcow2_base.specs.Storage.ImageFile.{FileContent, OnFile}
@@ -11,20 +10,17 @@ use Rattle.qcow2_base.specs.declared.fault.Fault.TheVariants.{NoMemory, Storage}
 use Rattle.qcow2_base.specs.declared.storage.file.FileStorage.{FileStorage}
 use Rattle.qcow2_metadata.specs.Header.{HeaderRecord}
 use Rattle.qcow2_session.proofs.PrintingLemmas.{reads-calm, run_between}
-use Rattle.qcow2_session.specs.Commands.{command_by_name, command_of, facts_of, image_name}
+use Rattle.qcow2_session.specs.Commands.{facts_of}
 use Rattle.qcow2_session.specs.Commands.Apply.{maps_refusal}
-use Rattle.qcow2_session.specs.Commands.Printing.{AppendsPart, OutputBytes}
-use Rattle.qcow2_session.specs.Commands.Report.{ReportsFault, fault_line}
-use Rattle.qcow2_session.specs.Commands.RunningOnFiles.{ComparesWithEnd, FitsEnd, IsRefusedByEnd, RefusesBy, RunsLine, RunsOnFile, RunsWords, StopsOrEnds, told_beside}
+use Rattle.qcow2_session.specs.Commands.Printing.{OutputBytes}
+use Rattle.qcow2_session.specs.Commands.RunningOnFiles.{ComparesWithEnd, FitsEnd, IsRefusedByEnd, RefusesBy, RunsOnFile, StopsOrEnds, told_beside}
 use Rattle.qcow2_session.specs.Commands.Running.{AfterHeader, EndsAndFlushes, FindsHeader}
-use Rattle.qcow2_check.specs.Verdict.{status_of_verdict}
-use Rattle.qcow2_session.specs.Commands.Words.{Word, WordList}
+use Rattle.qcow2_session.specs.Commands.Words.{Word}
 use Rattle.qcow2_session.specs.declared.commands.Command.{Command}
 use Rattle.qcow2_session.specs.declared.commands.Command.TheVariants.{Apply}
 use Rattle.qcow2_session.specs.declared.commands.apply.ApplyForm.{ApplyForm}
 use Rattle.qcow2_session.specs.declared.commands.apply.DiskEdit.{DiskEdit}
 use Rattle.qcow2_check.specs.declared.verdict.Verdict.{Verdict}
-use Rattle.qcow2_check.specs.declared.verdict.Verdict.TheVariants.{Fine}
 
 -- a run found its header, and stopped before its command
 pub stopped-before : {O : Type 0} (command : Command) (header : HeaderRecord) (fault : Fault) (contents : O → OutputBytes) (old left new : StorageState) (out : O)
@@ -107,78 +103,3 @@ closed-file known command path old opened new begun ended ran answer in_use cont
 -- what changed after calls that changed nothing
 pub changed-since : (path : Word) (old left new : Word → PathFile) → left ≡ old → ChangesOne path left new → ChangesOne path old new
 changed-since path old left new same changes = subst (λ (files : Word → PathFile). ChangesOne path files new) same changes
-
--- the command that a line of words asks for ran over the file that its second word names
-pub line-of-words : (words : WordList) (name image : Word) (arguments : WordList) (P : Option Command → Word → Type 0)
-    → words ≡ name ∷ image ∷ arguments → P (command_by_name name image arguments) image → P (command_of words) (image_name words)
-line-of-words words name image arguments P same ran = rw same ran
-
--- words that ask for no command change no file
-pub line-of-none : {O : Type 0} (meant : Option Command) (path : Word) (files : Word → PathFile) (status : ℕ) (contents : O → OutputBytes) (before after : O) (told telling : OutputBytes)
-    → meant ≡ None → RunsWords meant path files files status contents before after told telling
-line-of-none meant path files status contents before after told telling none = rw none refl
-
-kept : (known : OutputBytes) → Keeps known known
-kept None = tt
-kept (Some bytes) = refl
-
--- the first two of some items, and the others
-pub two-items : {X : Type 0} (items : List X) (first second : X) → 2 ≤ length items → first ≡ get_or items 0 first → second ≡ get_or items 1 second
-    → items ≡ first ∷ second ∷ take (length items - 2) (drop 2 items)
-two-items [] first second enough at next = absurd (omega (arith, enough))
-two-items (one ∷ []) first second enough at next = absurd (omega (arith, enough))
-two-items (one ∷ two ∷ items) first second enough at next =
-    let rest : take (length (one ∷ two ∷ items) - 2) items ≡ items = take_all (length (one ∷ two ∷ items) - 2) items (omega arith) in
-    rw (at, next, rest) refl
-
--- memory ran out for a line's words
-pub line-unread : {O : Type 0} (meant : Option Command) (path : Word) (files : Word → PathFile) (status : ℕ) (contents : O → OutputBytes) (out : O) (told telling : OutputBytes)
-    → status ≡ 1 → AppendsPart told telling (fault_line NoMemory) → RunsWords meant path files files status contents out out told telling
-line-unread None path files status contents out told telling is line = refl
-line-unread (Some command) path files status contents out told telling is line = (
-  record {
-    runs = inl ((is, line), refl, refl);
-    place = placed (facts_of command).place_fault;
-    verdict = λ none. omega (arith, is);
-  },
-  λ other. inl refl,
-)
-  where
-    placed : (found : Option Fault) → IfSome found (λ _. (status ≡ 1) × Keeps (contents out) (contents out))
-    placed None = tt
-    placed (Some fault) = (is, kept (contents out))
-
--- a command ran over a file, and its answer gave the status
-pub line-ended : {O : Type 0} (command : Command) (old new : PathFile) (answer : Result Verdict Fault) (status : ℕ) (contents : O → OutputBytes) (before after : O) (told telling : OutputBytes) (Silent : Type 0)
-    → RunsOnFile command old new answer contents before after
-    → IfSome (facts_of command).place_fault (λ _. IsErr answer × Keeps (contents before) (contents after))
-    → ((facts_of command).has_verdict ≡ false → IfOk answer (λ verdict. verdict ≡ Fine))
-    → MatchResult answer (λ verdict. status ≡ status_of_verdict verdict) (λ _. status ≡ 1)
-    → MatchResult answer (λ _. Silent) (λ fault. AppendsPart told telling (fault_line fault))
-    → RunsLine command old new status contents before after told telling
-line-ended command old new answer status contents before after told telling Silent ran place fine is line = record {
-  runs = inr (answer, ran, reported answer is line);
-  place = placed (facts_of command).place_fault place;
-  verdict = λ none. quiet answer (fine none) is;
-}
-  where
-    reported : (answer : Result Verdict Fault) → MatchResult answer (λ verdict. status ≡ status_of_verdict verdict) (λ _. status ≡ 1)
-        → MatchResult answer (λ _. Silent) (λ fault. AppendsPart told telling (fault_line fault))
-        → MatchResult answer (λ verdict. status ≡ status_of_verdict verdict) (λ fault. ReportsFault fault status told telling)
-    reported (Ok verdict) is line = is
-    reported (Err fault) is line = (is, line)
-
-    failed : (answer : Result Verdict Fault) → IsErr answer
-        → MatchResult answer (λ verdict. status ≡ status_of_verdict verdict) (λ _. status ≡ 1) → status ≡ 1
-    failed (Ok verdict) err is = absurd (grind (arith, err))
-    failed (Err fault) err is = is
-
-    placed : (found : Option Fault) → IfSome found (λ _. IsErr answer × Keeps (contents before) (contents after))
-        → IfSome found (λ _. (status ≡ 1) × Keeps (contents before) (contents after))
-    placed None held = tt
-    placed (Some fault) held = (failed answer held.0 is, held.1)
-
-    quiet : (answer : Result Verdict Fault) → IfOk answer (λ verdict. verdict ≡ Fine)
-        → MatchResult answer (λ verdict. status ≡ status_of_verdict verdict) (λ _. status ≡ 1) → status ≤ 1
-    quiet (Ok verdict) fine is = let zero : status ≡ status_of_verdict Fine = rw fine at is in omega (arith, zero)
-    quiet (Err fault) fine is = omega (arith, is)

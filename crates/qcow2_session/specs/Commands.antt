@@ -6,7 +6,6 @@ pub mod Check
 pub mod Count
 pub mod Edit
 pub mod Entries
-pub mod Explain
 pub mod Facts
 pub mod Help
 pub mod Info
@@ -15,21 +14,22 @@ pub mod Layout
 pub mod List
 pub mod Map
 pub mod Printing
+pub mod Program
 pub mod Refcount
 pub mod Report
+pub mod Request
 pub mod Running
 pub mod RunningOnFiles
 pub mod Tables
 pub mod Words
-use Rattle.std.specs.Prelude.{◌≡◌, if◌then◌else◌, [], ◌∷◌, Option, None, bytes_eq, codes}
+use Rattle.std.specs.Prelude.{if◌then◌else◌, ◌∷◌, Option, None, bytes_eq, codes}
 use Rattle.qcow2_session.specs.Commands.Apply.{apply_command, apply_facts}
 use Rattle.qcow2_session.specs.Commands.At.{at_command, at_facts}
 use Rattle.qcow2_session.specs.Commands.Check.{check_command, check_facts}
 use Rattle.qcow2_session.specs.Commands.Count.{count_command, count_facts}
 use Rattle.qcow2_session.specs.Commands.Edit.{edit_command, edit_facts}
-use Rattle.qcow2_session.specs.Commands.Explain.{explained_text}
 use Rattle.qcow2_session.specs.Commands.Facts.{CommandFacts}
-use Rattle.qcow2_session.specs.Commands.Help.{ask_for_help, asked_text}
+use Rattle.qcow2_session.specs.Commands.Help.{ask_for_help}
 use Rattle.qcow2_session.specs.Commands.Info.{info_facts}
 use Rattle.qcow2_session.specs.Commands.L2.{l2_command, l2_facts}
 use Rattle.qcow2_session.specs.Commands.Layout.{layout_command, layout_facts}
@@ -61,21 +61,6 @@ named_command name image arguments =
 -- the same where words that ask for a command's help ask for none
 abbrev pub command_by_name : Word → Word → WordList → Option Command
 command_by_name name image arguments = if ask_for_help name (image ∷ arguments) then None else named_command name image arguments
-
--- the command that a line of words asks for, if it asks for one: its first word is the command's name, its second that
--- of the image
-abbrev pub command_of : WordList → Option Command
-command_of (name ∷ image ∷ arguments) = command_by_name name image arguments
-command_of _ = None
-
--- the name of the image that a line of words says
-abbrev pub image_name : WordList → Word
-image_name (name ∷ image ∷ arguments) = image
-image_name _ = []
-
--- words that ask for no command, for no text, and for no fault's place
-abbrev pub AskForNothing : WordList → Type 0
-AskForNothing words = (command_of words ≡ None) × (asked_text words ≡ None) × (explained_text words ≡ None)
 
 -- the facts of a command
 abbrev pub facts_of : Command → CommandFacts

@@ -7,8 +7,8 @@ pub mod laws;
 mod lines;
 
 pub use commands::{
-    ApplyForm, Arguments, CheckForm, ClusterBits, Command, DiskEdit, FileName, Verdict,
-    report_fault, run, run_on_file, run_words,
+    ApplyForm, Arguments, CheckForm, ClusterBits, Command, DiskEdit, FileName, HelpText, Question,
+    Request, Verdict, report_fault, run, run_on_file, run_request, run_words,
 };
 pub use qcow2_apply::{ChangedClusters, GuestEdit, KeptCluster, Plan, apply_edits};
 pub use qcow2_check::{Counters, Finding, Findings, FlagPlace, Flags, WrongFlag};

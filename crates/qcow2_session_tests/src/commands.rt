@@ -7,6 +7,7 @@ mod check_repair;
 mod explain;
 pub(crate) mod in_memory;
 mod known_host;
+mod requests;
 pub(crate) mod run;
 pub(crate) mod whole_images;
 

@@ -97,7 +97,10 @@ fn look_up<S: Storage>(
 ) -> Result<[L2Mapping; 2], Fault> {
     let offset = GuestOffset(1543);
     let l1_table: L1Table = load_table(alloc, image, header, HostCluster(1), 1)?;
-    Ok([lookup(alloc, image, header, &l1_table, offset)?, lookup_image(alloc, image, offset)?])
+    Ok([
+        lookup(alloc, image, header, &l1_table, offset)?,
+        lookup_image(alloc, image, offset)?,
+    ])
 }
 
 // Discards guest cluster 3, takes a reference of its cluster away, and prints what the image says.
@@ -122,10 +125,23 @@ fn change_and_print<S: Storage>(
 #[test]
 fn reading_and_writing_an_image_asks_for_no_device(rt: HostRuntime) -> Result<(), Fail> {
     let alloc = rt.alloc();
-    let mut plain = PlainStorage { image: sample_image(alloc, 9, counted!())? };
+    let mut plain = PlainStorage {
+        image: sample_image(alloc, 9, counted!())?,
+    };
     let header = pass_metadata(alloc, &mut plain)?;
-    let data = L2Mapping::DataFile { host_cluster: HostCluster(5), copied: true };
-    same(look_up(alloc, &mut plain, &header)?, [data, data], "guest offset 1543")?;
+    let data = L2Mapping::DataFile {
+        host_cluster: HostCluster(5),
+        copied: true,
+    };
+    same(
+        look_up(alloc, &mut plain, &header)?,
+        [data, data],
+        "guest offset 1543",
+    )?;
     let out = change_and_print(alloc, &mut plain, &header)?;
-    same_bytes(&out, b"freed 5 1\nok 1\nbacking 0x600\n", "what was printed")
+    same_bytes(
+        &out,
+        b"freed 5 1\nok 1\nbacking 0x600\n",
+        "what was printed",
+    )
 }

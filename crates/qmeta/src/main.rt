@@ -4,7 +4,7 @@
 use qcow2_base::Fault;
 use qcow2_locks::{GuardedFiles, HeldImage, Unlisted, hold_alone};
 use qcow2_progress::{Progress, WatchedFiles, WatchedOutput, WatchedTable, l2_tables};
-use qcow2_session::Command;
+use qcow2_session::{Request, report_fault, run_request};
 use std::env::VarError;
 use std::fs::File;
 use std::io::{BufWriter, ErrorKind, IsTerminal};
@@ -20,38 +20,31 @@ const OUTPUT_BUFFER: usize = 65536;
 // The variable that says `allow` where an image is to be changed of which no list of locks says anything.
 const NO_LOCK_LIST: &str = "QMETA_NO_LOCK_LIST";
 
-// What words ask for, of an image.
-#[derive(Drop)]
-struct Asked<'a> {
-    command: Command,
-    path: &'a str,
-}
-
 fn main(rt: HostRuntime) -> ExitCode {
     ExitCode::from(match run(&rt) {
         Ok(status) => status,
-        Err(fault) => qcow2_session::report_fault(fault, &mut rt.stderr()),
+        Err(fault) => report_fault(fault, &mut rt.stderr()),
     })
 }
 
-// Runs the words of the command line, and returns the status. The storage fault, with no image opened,
+// Does what the words of the command line ask for, and returns the status. The storage fault, with no image opened,
 // where the standard descriptors can't be taken. An image that is changed is held until the end.
 fn run(rt: &HostRuntime) -> Result<u8, Fault> {
     let Ok(_taken) = take_standard_descriptors(rt) else {
         return Err(Fault::Storage);
     };
     let words = words_of(rt)?;
-    let asked = asked_by(rt, words.as_slice())?;
-    let held = hold_image(rt, &asked)?;
-    let tables = watched_tables(rt, &asked);
-    run_watched(rt, words.as_slice(), tables.as_slice(), held.as_ref())
+    let request = Request::parse(rt.alloc(), words.as_slice())?;
+    let held = hold_image(rt, &request)?;
+    let tables = watched_tables(rt, &request);
+    run_watched(rt, &request, tables.as_slice(), held.as_ref())
 }
 
-// Runs words, and says at a terminal how far it is with these tables of the image. One that is held is
-// written to only while no other program has come to it.
+// Does what words ask for, and says at a terminal how far it is with these tables of the image. One that is
+// held is written to only while no other program has come to it.
 fn run_watched(
     rt: &HostRuntime,
-    words: &[String],
+    request: &Request<'_>,
     tables: &[WatchedTable],
     held: Option<&HeldImage>,
 ) -> Result<u8, Fault> {
@@ -63,7 +56,7 @@ fn run_watched(
     let Ok(mut out) = BufWriter::with_capacity(rt.alloc(), OUTPUT_BUFFER, out) else {
         return Err(Fault::NoMemory);
     };
-    let status = qcow2_session::run_words(&mut files, words, &mut out, &mut err);
+    let status = run_request(&mut files, request, &mut out, &mut err);
     progress.wipe();
     Ok(status)
 }
@@ -88,24 +81,11 @@ fn words_of(rt: &HostRuntime) -> Result<Vec<String>, Fault> {
     }
 }
 
-// The command that words ask for, if they ask for one. Other words are looked at later.
-fn asked_by<'a>(rt: &HostRuntime, words: &'a [String]) -> Result<Option<Asked<'a>>, Fault> {
-    let [name, image, arguments @ ..] = words else {
-        return Ok(None);
-    };
-    let path = image.as_str();
-    match Command::parse(rt.alloc(), name.as_str(), path, arguments) {
-        Some(Ok(command)) => Ok(Some(Asked { command, path })),
-        Some(Err(error)) => Err(Fault::from(error)),
-        None => Ok(None),
-    }
-}
-
 // Holds the image of a command that changes it.
-fn hold_image(rt: &HostRuntime, asked: &Option<Asked<'_>>) -> Result<Option<HeldImage>, Fault> {
-    match asked {
-        Some(asked) if asked.command.changes_image() => {
-            Ok(Some(hold_alone(rt, asked.path, unlisted(rt)?)?))
+fn hold_image(rt: &HostRuntime, request: &Request<'_>) -> Result<Option<HeldImage>, Fault> {
+    match request {
+        Request::Command { command, path } if command.changes_image() => {
+            Ok(Some(hold_alone(rt, path, unlisted(rt)?)?))
         }
         _ => Ok(None),
     }
@@ -122,11 +102,12 @@ fn unlisted(rt: &HostRuntime) -> Result<Unlisted, Fault> {
 
 // The L2 tables whose reads are told of: those of the image of a command that reads all, at a terminal. None
 // where they can't be read, as the command will say.
-fn watched_tables(rt: &HostRuntime, asked: &Option<Asked<'_>>) -> Vec<WatchedTable> {
+fn watched_tables(rt: &HostRuntime, request: &Request<'_>) -> Vec<WatchedTable> {
     let none = Vec::new(rt.alloc());
-    match asked {
-        Some(asked) if asked.command.reads_all_tables() && has_terminal_alone(rt) => {
-            l2_tables(rt, asked.path).unwrap_or(none)
+    match request {
+        Request::Command { command, path }
+            if command.reads_all_tables() && has_terminal_alone(rt) => {
+            l2_tables(rt, path).unwrap_or(none)
         }
         _ => none,
     }

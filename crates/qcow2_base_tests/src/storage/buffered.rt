@@ -119,5 +119,9 @@ fn a_length_is_asked_of_the_storage_below_the_pages(rt: HostRuntime) -> Result<(
     let mut storage = buffered(rt.alloc(), 512, Some(1))?;
     let len = storage.inner().inner.bytes().len() as u64;
     let answers = (storage.len(), storage.len(), storage.len());
-    same(answers, (Ok(Some(len)), Err(StorageFault), Ok(Some(len))), "three calls")
+    same(
+        answers,
+        (Ok(Some(len)), Err(StorageFault), Ok(Some(len))),
+        "three calls",
+    )
 }

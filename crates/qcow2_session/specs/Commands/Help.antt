@@ -1,13 +1,9 @@
--- Which words ask for a text and for no image, and what is it?
-use Rattle.std.specs.Prelude.{◌≡◌, ◌⊎◌, ℕ, ◌==◌, ◌++◌, ◌&&◌, ◌||◌, Bool, false, not, if◌then◌else◌, List, [], ◌∷◌, Option, Some, None, bytes_eq, codes, flat_map}
-use Rattle.std.specs.Io.KnownBytes.{Appends}
+-- Which text do words ask for?
+use Rattle.std.specs.Prelude.{ℕ, ◌==◌, ◌++◌, ◌&&◌, ◌||◌, Bool, false, not, if◌then◌else◌, List, [], ◌∷◌, Option, Some, None, bytes_eq, codes, flat_map}
 use Rattle.std.specs.List.{before_first, range_with_len}
-use Rattle.qcow2_base.specs.declared.fault.Fault.TheVariants.{Storage}
-use Rattle.qcow2_help.specs.CommandTexts.{command_text, commands_text, version_text}
+use Rattle.qcow2_help.specs.CommandTexts.{command_text, commands_text}
 use Rattle.qcow2_help.specs.FaultTexts.{fault_count, fault_text}
-use Rattle.qcow2_session.specs.Commands.Printing.{AppendsPart, OutputBytes}
-use Rattle.qcow2_session.specs.Commands.Report.{ReportsFault}
-use Rattle.qcow2_session.specs.Commands.Words.{Word, WordList, word_number}
+use Rattle.qcow2_session.specs.Commands.Words.{Word, WordList}
 use Rattle.qcow2_session.specs.declared.commands.help.HelpText.{HelpText}
 use Rattle.qcow2_session.specs.declared.commands.help.HelpText.TheVariants as help
 
@@ -44,12 +40,6 @@ abbrev pub text_by_number : Option ℕ → Option (List ℕ)
 text_by_number None = None
 text_by_number (Some number) = fault_text number
 
--- what the words after `explain` ask for
-abbrev pub explain_text : WordList → Option (List ℕ)
-explain_text [] = Some all_rules
-explain_text (word ∷ []) = text_by_number (word_number word)
-explain_text _ = None
-
 -- this text, where there are no words more
 abbrev pub text_alone : List ℕ → WordList → Option (List ℕ)
 text_alone text [] = Some text
@@ -68,22 +58,3 @@ asks_for_help name word = (bytes_eq word (codes "--help") || bytes_eq word (code
 abbrev pub ask_for_help : Word → WordList → Bool
 ask_for_help name (word ∷ []) = asks_for_help name word
 ask_for_help name _ = false
-
--- the text that a name and the words after it ask for, if they ask for one, other than by such a word
-abbrev pub named_text : Word → WordList → Option (List ℕ)
-named_text name arguments =
-    if bytes_eq name (codes "help") || bytes_eq name (codes "--help") || bytes_eq name (codes "-h") then help_text arguments
-    else if bytes_eq name (codes "explain") then explain_text arguments
-    else if bytes_eq name (codes "version") || bytes_eq name (codes "--version") then text_alone version_text arguments
-    else None
-
--- the text that a line of words asks for, if it asks for one
-abbrev pub asked_text : WordList → Option (List ℕ)
-asked_text [] = None
-asked_text (name ∷ arguments) = if ask_for_help name arguments then command_text name else named_text name arguments
-
--- a text was asked for: it was printed, and the status is 0, or the output failed and has a beginning of it, which was
--- reported. `told` and `telling` are what standard error had before and has now, if known
-abbrev pub PrintsAsked : ℕ → List ℕ → OutputBytes → OutputBytes → OutputBytes → OutputBytes → Type 0
-PrintsAsked status text old new told telling = ((status ≡ 0) × Appends old new text)
-    ⊎ (ReportsFault Storage status told telling × AppendsPart old new text)

@@ -1,20 +1,16 @@
--- What does a run of a command come to over the file of a path, and that of a line of words?
-use Rattle.std.specs.Prelude.{◌≡◌, ◌<◌, ◌≤◌, ◌⊎◌, ℕ, Bool, true, false, IsTrue, Option, Some, None, IfSome, Result, Err, IsErrAnd, MatchResult}
-use Rattle.std.specs.Io.KnownBytes.{Keeps}
+-- What does a run of a command come to over the file of a path?
+use Rattle.std.specs.Prelude.{◌≡◌, ◌<◌, ◌⊎◌, ℕ, Bool, true, false, IsTrue, Option, Some, None, Result, Err, IsErrAnd, MatchResult}
 use Rattle.qcow2_base.specs.Storage.{OnImage, OnlyReads, StorageState}
 use Rattle.qcow2_base.specs.Storage.File.{state_over}
 use Rattle.qcow2_base.specs.Storage.ImageFile.{OnFile}
-use Rattle.qcow2_base.specs.Storage.ImageFiles.{ChangesOne, PathFile}
+use Rattle.qcow2_base.specs.Storage.ImageFiles.{PathFile}
 use Rattle.qcow2_base.specs.declared.fault.Fault.{Fault}
 use Rattle.qcow2_base.specs.declared.fault.Fault.TheVariants.{InUse, NoMemory, Storage}
 use Rattle.qcow2_metadata.specs.Header.{HeaderRecord}
 use Rattle.qcow2_session.specs.Commands.{facts_of}
 use Rattle.qcow2_session.specs.Commands.Apply.{maps_refusal}
 use Rattle.qcow2_session.specs.Commands.Printing.{OutputBytes, Run}
-use Rattle.qcow2_session.specs.Commands.Report.{ReportsFault}
 use Rattle.qcow2_session.specs.Commands.Running.{AfterHeader, EndsAndFlushes}
-use Rattle.qcow2_check.specs.Verdict.{status_of_verdict}
-use Rattle.qcow2_session.specs.Commands.Words.{Word}
 use Rattle.qcow2_session.specs.declared.commands.Command.{Command}
 use Rattle.qcow2_session.specs.declared.commands.Command.TheVariants.{Apply}
 use Rattle.qcow2_check.specs.declared.verdict.Verdict.{Verdict}
@@ -76,20 +72,3 @@ RunsOnFile command old new answer contents before after =
       before = before;
       after = after;
     }))
-
--- a line of words that asks for a command ended with this status. Memory ran out for its words, with nothing printed or
--- changed, or the command ran over a file, and its fault was reported. `told` and `telling` are what standard error had before
--- and has now, if known
-pub record RunsLine {O : Type 0} (command : Command) (old new : PathFile) (status : ℕ) (contents : O → OutputBytes) (before after : O) (told telling : OutputBytes) : Type 0 where
-  pub runs : (ReportsFault NoMemory status told telling × (new ≡ old) × (after ≡ before))
-      ⊎ ((answer : Result Verdict Fault) × RunsOnFile command old new answer contents before after
-      × MatchResult answer (λ verdict. status ≡ status_of_verdict verdict) (λ fault. ReportsFault fault status told telling))
-  pub place : IfSome (facts_of command).place_fault (λ _. (status ≡ 1) × Keeps (contents before) (contents after))
-  pub verdict : (facts_of command).has_verdict ≡ false → status ≤ 1
-
--- a line of words, which may ask for a command over the file of a path, ended with this status. Only that file may have
--- changed, by whatever name, and none if it asks for no command
-abbrev pub RunsWords : {O : Type 0} → Option Command → Word → (Word → PathFile) → (Word → PathFile) → ℕ → (O → OutputBytes) → O → O → OutputBytes → OutputBytes → Type 0
-RunsWords None path old new status contents before after told telling = new ≡ old
-RunsWords (Some command) path old new status contents before after told telling =
-    RunsLine command (old path) (new path) status contents before after told telling × ChangesOne path old new

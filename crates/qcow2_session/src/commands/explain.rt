@@ -1,7 +1,6 @@
 //! The command `explain` with an image: where in it a fault is.
 
-ghost use Rattle.std.specs.Prelude.{◌≡◌, ◌++◌, ℕ, List, IfOk, map, option_map, string_bytes};
-ghost use Rattle.qcow2_session.specs.Commands.Explain.{explained_text, located_text};
+ghost use Rattle.std.specs.Prelude.{◌≡◌, ◌++◌, ℕ, List, IfOk, IfSome, option_map, string_bytes};
 ghost use Rattle.qcow2_session.specs.Commands.Help.{text_by_number};
 ghost use Rattle.qcow2_session.specs.Commands.Words.{word_number};
 
@@ -13,41 +12,17 @@ use std::rt::Files;
 
 /// A fault whose place in an image words ask for.
 #[derive(Clone, Copy)]
-pub(super) struct Question<'a> {
+pub struct Question<'a> {
     number: u64,
     text: &'static str,
     path: &'a str,
 }
 
 impl<'a> Question<'a> {
-    /// The question that words ask, if they ask one.
-    pub(super) fn parse(words: &'a [String]) -> Option<Question<'a>>
-        ensures { option_map (λ question. question.text.now) result
-            ≡ explained_text (map string_bytes words.now) }
-    {
-        let [name, arguments @ ..] = words else {
-            return None;
-        };
-        match name.as_str() {
-            "explain" => Question::parse_arguments(arguments),
-            _ => None,
-        }
-    }
-
-    // The question that the words after `explain` ask.
-    fn parse_arguments(arguments: &'a [String]) -> Option<Question<'a>>
-        ensures { option_map (λ question. question.text.now) result
-            ≡ located_text (map string_bytes arguments.now) }
-    {
-        match arguments {
-            [fault, path] => Question::of(fault.as_str(), path.as_str()),
-            _ => None,
-        }
-    }
-
-    // The question about the fault that a word names by its number, and a path.
-    fn of(fault: &str, path: &'a str) -> Option<Question<'a>>
-        ensures { option_map (λ question. question.text.now) result ≡ text_by_number (word_number fault.now) }
+    /// The question about the fault that a word names by its number, and a path.
+    pub(super) fn of(fault: &str, path: &'a str) -> Option<Question<'a>>
+        ensures text { option_map (λ question. question.text.now) result ≡ text_by_number (word_number fault.now) }
+        ensures path { IfSome result (λ question. question.path.now ≡ path.now) }
     {
         let number = number(fault)?;
         let text = fault_help(number)?;

@@ -1,9 +1,10 @@
-//! Words that ask for a text and for no image: `help`, `explain` and `version`.
+//! Texts that words ask for: those of `help`, `explain` and `version`.
 
-ghost use Rattle.std.specs.Prelude.{◌≡◌, ◌≤◌, map, option_map, string_bytes};
+ghost use Rattle.std.specs.Prelude.{◌≡◌, map, option_map, string_bytes};
 ghost use Rattle.qcow2_help.specs.CommandTexts.{version_text};
-ghost use Rattle.qcow2_session.specs.Commands.Help.{ask_for_help, asked_text, asks_for_help, explain_text, help_text, all_rules, first_line_of, named_text, rule_of, takes_any_name, text_alone, text_of};
+ghost use Rattle.qcow2_session.specs.Commands.Help.{all_rules, ask_for_help, asks_for_help, first_line_of, help_text, rule_of, takes_any_name, text_alone, text_by_number, text_of};
 ghost use Rattle.qcow2_session.specs.Commands.Printing.{PrintsText};
+ghost use Rattle.qcow2_session.specs.Commands.Words.{word_number};
 
 use super::words::number;
 use crate::lines::print;
@@ -13,7 +14,7 @@ use std::io::Write;
 
 /// A text that words ask for.
 #[derive(Clone, Copy)]
-pub(super) enum HelpText {
+pub enum HelpText {
     /// This one.
     Whole(&'static str),
     /// What must hold by each fault, a line each.
@@ -21,19 +22,6 @@ pub(super) enum HelpText {
 }
 
 impl HelpText {
-    /// The text that words ask for, if they ask for one.
-    pub(super) fn parse(words: &[String]) -> Option<HelpText>
-        ensures { option_map text_of result ≡ asked_text (map string_bytes words.now) }
-    {
-        let [name, arguments @ ..] = words else {
-            return None;
-        };
-        if ask_for_help(name.as_str(), arguments) {
-            return command_help(name.as_str()).map(HelpText::Whole);
-        }
-        parse_named(name.as_str(), arguments)
-    }
-
     /// Prints it.
     pub(super) fn print<O: Write>(self, out: &mut O) -> Result<(), Fault>
         ensures { PrintsText result (O.contents out.old) (O.contents out.new) (text_of self) }
@@ -45,8 +33,8 @@ impl HelpText {
     }
 }
 
-// Whether the words after a command's name ask for its help.
-fn ask_for_help(name: &str, arguments: &[String]) -> bool
+/// Whether the words after a command's name ask for its help.
+pub(super) fn ask_for_help(name: &str, arguments: &[String]) -> bool
     ensures { result ≡ ask_for_help name.now (map string_bytes arguments.now) }
 {
     match arguments {
@@ -71,20 +59,8 @@ fn takes_any_name(name: &str) -> bool
     matches!(name, "info" | "list" | "at" | "edit" | "count" | "l2")
 }
 
-// The text that a name and the words after it ask for, other than by a word for help.
-fn parse_named(name: &str, arguments: &[String]) -> Option<HelpText>
-    ensures { option_map text_of result ≡ named_text name.now (map string_bytes arguments.now) }
-{
-    match name {
-        "help" | "--help" | "-h" => parse_help(arguments),
-        "explain" => parse_explain(arguments),
-        "version" | "--version" => parse_version(arguments),
-        _ => None,
-    }
-}
-
-// What the words after `help` ask for.
-fn parse_help(arguments: &[String]) -> Option<HelpText>
+/// What the words after `help` ask for.
+pub(super) fn parse_help(arguments: &[String]) -> Option<HelpText>
     ensures { option_map text_of result ≡ help_text (map string_bytes arguments.now) }
 {
     match arguments {
@@ -94,19 +70,15 @@ fn parse_help(arguments: &[String]) -> Option<HelpText>
     }
 }
 
-// What the words after `explain` ask for.
-fn parse_explain(arguments: &[String]) -> Option<HelpText>
-    ensures { option_map text_of result ≡ explain_text (map string_bytes arguments.now) }
+/// The text on the fault that a word names by its number.
+pub(super) fn parse_fault(word: &str) -> Option<HelpText>
+    ensures { option_map text_of result ≡ text_by_number (word_number word.now) }
 {
-    match arguments {
-        [] => Some(HelpText::Rules),
-        [word] => fault_help(number(word.as_str())?).map(HelpText::Whole),
-        _ => None,
-    }
+    fault_help(number(word)?).map(HelpText::Whole)
 }
 
-// What the words after `version` ask for.
-fn parse_version(arguments: &[String]) -> Option<HelpText>
+/// What the words after `version` ask for.
+pub(super) fn parse_version(arguments: &[String]) -> Option<HelpText>
     ensures { option_map text_of result ≡ text_alone version_text (map string_bytes arguments.now) }
 {
     match arguments {

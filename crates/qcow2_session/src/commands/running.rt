@@ -1,20 +1,16 @@
-//! Running a command over its image, and the whole program.
+//! Running a command over its image.
 
-ghost use Rattle.std.specs.Prelude.{◌≡◌, ◌≤◌, ◌↔◌, None, Ok, Err, false, map, string_bytes, IsErr, IsOkUnless, IfOk, IfSome, OnErr, OnOk, MatchResult, ◌⊎◌, ℕ, Some, IfErr};
+ghost use Rattle.std.specs.Prelude.{◌≡◌, ◌⊎◌, ℕ, Err, false, IfErr, IfOk, IfSome, IsErr, MatchResult, OnErr, OnOk, Some};
 ghost use Rattle.std.specs.Io.KnownBytes.{Keeps};
 ghost use Rattle.qcow2_base.specs.Storage.{OnImage, OnlyReads};
 ghost use Rattle.qcow2_base.specs.Storage.File.{file_state};
 ghost use Rattle.qcow2_base.specs.Storage.ImageFiles.{ChangesOne};
 ghost use Rattle.qcow2_base.specs.declared.fault.Fault.TheVariants.{Storage as StorageFailed};
-ghost use Rattle.qcow2_check.specs.Verdict.{status_of_verdict};
 ghost use Rattle.qcow2_check.specs.declared.verdict.Verdict.TheVariants.{Fine};
-ghost use Rattle.qcow2_session.specs.Commands.{AskForNothing, command_by_name, command_of, facts_of, image_name};
+ghost use Rattle.qcow2_session.specs.Commands.{facts_of};
 ghost use Rattle.qcow2_session.specs.Commands.Apply.{maps_refusal};
-ghost use Rattle.qcow2_session.specs.Commands.Explain.{PrintsExplained, explained_text};
-ghost use Rattle.qcow2_session.specs.Commands.Help.{PrintsAsked, asked_text, text_of};
-ghost use Rattle.qcow2_session.specs.Commands.Printing.{AppendsPart, PrintsLast, run_over};
-ghost use Rattle.qcow2_session.specs.Commands.Report.{Reports, fault_line};
-ghost use Rattle.qcow2_session.specs.Commands.RunningOnFiles.{ComparesWithEnd, RefusesBy, RunsOnFile, RunsWords, StopsOrEnds, told_beside};
+ghost use Rattle.qcow2_session.specs.Commands.Printing.{PrintsLast, run_over};
+ghost use Rattle.qcow2_session.specs.Commands.RunningOnFiles.{ComparesWithEnd, RefusesBy, RunsOnFile, StopsOrEnds, told_beside};
 ghost use Rattle.qcow2_session.specs.Commands.Running.{AfterHeader, EndsAndFlushes, FindsHeader, IsHeaderFor, Runs, fine_unless_failed};
 
 use super::Command;
@@ -23,17 +19,13 @@ use super::at::print_mapping_at;
 use super::check::check_in_form;
 use super::count::count_and_wait;
 use super::edit::edit_and_wait;
-use super::explain::Question;
-use super::help::HelpText;
 use super::info::print_info;
 use super::l2::{new_header, print_l2_table};
 use super::layout::print_layout;
 use super::list::list_tables;
 use super::map::print_extents;
 use super::refcount::print_counters;
-use super::report::{refuse_words, report_fault};
 use super::tables::print_tables;
-use crate::lines::print;
 use qcow2_base::{Device, Fault, FileStorage, ImageFile, ImageFiles, Storage};
 use qcow2_buffered::BufferedStorage;
 use qcow2_check::{Verdict, refuse_short_l1};
@@ -41,164 +33,6 @@ use qcow2_metadata::Header;
 use std::alloc::Global;
 use std::io;
 use std::io::Write;
-use std::rt::Files;
-
-/// Runs a command line, the words after the program's name, and returns the program's status: 0 for
-/// success, 1 for a fault and 2 for words that ask for nothing. 3 and 4 are those of `Verdict::status`, for
-/// what a command found that is wrong with its image.
-///
-/// What the command finds goes to `out`, where lines before a fault stay. `help`, `explain` and `version`
-/// print a text there, and open no image; `explain` of an image goes on with lines on where in it the fault
-/// is. A fault is the line `qmeta: fault N` on `err`, wrong words are the usage line there. `out` is flushed
-/// after a command that ran, `err` after a line on it. A failed write to `out` is the storage fault; one to
-/// `err` changes nothing. Only a command changes a file, and only that of its image.
-#[tactic(auto, using(crate::proofs::HelpLemmas::asked_is_no_command))]
-pub fn run_words<R: Files + ImageFiles + AllocGlobal, O: Write, E: Write>(
-    rt: &mut R,
-    words: &[String],
-    out: &mut O,
-    err: &mut E,
-) -> u8
-    ensures status { result ≤ 4 }
-    ensures wrong_words { ((result ≡ 2) ↔ AskForNothing (map string_bytes words.now))
-        × (result ≡ 2 → out.new ≡ out.old) }
-    ensures text { IfSome (asked_text (map string_bytes words.now)) (λ text.
-        PrintsAsked result text (O.contents out.old) (O.contents out.new)
-        (E.contents err.old) (E.contents err.new))
-        × IfSome (explained_text (map string_bytes words.now)) (λ text.
-        PrintsExplained result text (O.contents out.old) (O.contents out.new)
-        (E.contents err.old) (E.contents err.new)) }
-    ensures reports { Reports result E.contents err.old err.new }
-    ensures command { RunsWords (command_of (map string_bytes words.now))
-        (image_name (map string_bytes words.now)) (R.file_at rt.old) (R.file_at rt.new) result
-        O.contents out.old out.new (E.contents err.old) (E.contents err.new) }
-{
-    match HelpText::parse(words) {
-        Some(text) => print_asked(text, out, err),
-        None => run_further(rt, words, out, err),
-    }
-}
-
-// Runs words that ask for no text.
-#[tactic(auto, using(crate::proofs::ExplainLemmas::explained_is_no_command))]
-fn run_further<R: Files + ImageFiles + AllocGlobal, O: Write, E: Write>(
-    rt: &mut R,
-    words: &[String],
-    out: &mut O,
-    err: &mut E,
-) -> u8
-    ensures status { result ≤ 4 }
-    ensures wrong_words { ((result ≡ 2) ↔ (command_of (map string_bytes words.now) ≡ None)
-        × (explained_text (map string_bytes words.now) ≡ None)) × (result ≡ 2 → out.new ≡ out.old) }
-    ensures explained { IfSome (explained_text (map string_bytes words.now)) (λ text.
-        PrintsExplained result text (O.contents out.old) (O.contents out.new)
-        (E.contents err.old) (E.contents err.new)) }
-    ensures reports { Reports result E.contents err.old err.new }
-    ensures command { RunsWords (command_of (map string_bytes words.now))
-        (image_name (map string_bytes words.now)) (R.file_at rt.old) (R.file_at rt.new) result
-        O.contents out.old out.new (E.contents err.old) (E.contents err.new) }
-{
-    match Question::parse(words) {
-        Some(question) => explain(&*rt, &question, out, err),
-        None => run_command(rt, words, out, err),
-    }
-}
-
-// Prints the text on a fault and where it is in an image, and returns the status.
-fn explain<R: Files + ImageFiles + AllocGlobal, O: Write, E: Write>(
-    rt: &R,
-    question: &Question<'_>,
-    out: &mut O,
-    err: &mut E,
-) -> u8
-    ensures text { PrintsExplained result question.now.text.now (O.contents out.old) (O.contents out.new)
-        (E.contents err.old) (E.contents err.new) }
-    ensures reports { Reports result E.contents err.old err.new }
-{
-    match question.answer(rt) {
-        Ok(answer) => print_answer(answer.as_str(), out, err),
-        Err(fault) => report_fault(fault, err),
-    }
-}
-
-// Prints a text, and returns the status.
-fn print_answer<O: Write, E: Write>(text: &str, out: &mut O, err: &mut E) -> u8
-    ensures text { PrintsAsked result text.now (O.contents out.old) (O.contents out.new)
-        (E.contents err.old) (E.contents err.new) }
-    ensures reports { Reports result E.contents err.old err.new }
-{
-    let printed = print(text.as_bytes(), out);
-    status_of(after_flush(fine(printed), out.flush()), err)
-}
-
-// Prints a text that words ask for, and returns the status.
-fn print_asked<O: Write, E: Write>(text: HelpText, out: &mut O, err: &mut E) -> u8
-    ensures text { PrintsAsked result (text_of text) (O.contents out.old) (O.contents out.new)
-        (E.contents err.old) (E.contents err.new) }
-    ensures reports { Reports result E.contents err.old err.new }
-{
-    let printed = text.print(out);
-    status_of(after_flush(fine(printed), out.flush()), err)
-}
-
-// Runs the command that words ask for, and returns the status: 2 where they ask for none.
-fn run_command<R: ImageFiles + AllocGlobal, O: Write, E: Write>(
-    rt: &mut R,
-    words: &[String],
-    out: &mut O,
-    err: &mut E,
-) -> u8
-    ensures status { result ≤ 4 }
-    ensures wrong_words { (result ≡ 2) ↔ (command_of (map string_bytes words.now) ≡ None) }
-    ensures no_lines { result ≡ 2 → out.new ≡ out.old }
-    ensures reports { Reports result E.contents err.old err.new }
-    ensures command { RunsWords (command_of (map string_bytes words.now))
-        (image_name (map string_bytes words.now)) (R.file_at rt.old) (R.file_at rt.new) result
-        O.contents out.old out.new (E.contents err.old) (E.contents err.new) }
-{
-    let [name, image, arguments @ ..] = words else {
-        return refuse_words(err);
-    };
-    run_named(rt, name.as_str(), image.as_str(), arguments, out, err)
-}
-
-// Runs the command that a name, the image's name and the words after it ask for, and returns the status.
-fn run_named<R: ImageFiles + AllocGlobal, O: Write, E: Write>(
-    rt: &mut R,
-    name: &str,
-    image: &str,
-    arguments: &[String],
-    out: &mut O,
-    err: &mut E,
-) -> u8
-    ensures status { result ≤ 4 }
-    ensures wrong_words { (result ≡ 2)
-        ↔ (command_by_name name.now image.now (map string_bytes arguments.now) ≡ None) }
-    ensures no_lines { result ≡ 2 → out.new ≡ out.old }
-    ensures reports { Reports result E.contents err.old err.new }
-    ensures command { RunsWords (command_by_name name.now image.now (map string_bytes arguments.now))
-        image.now (R.file_at rt.old) (R.file_at rt.new) result
-        O.contents out.old out.new (E.contents err.old) (E.contents err.new) }
-{
-    let alloc = rt.alloc();
-    match Command::parse(alloc, name, image, arguments) {
-        Some(Ok(command)) => status_of(run_on_file(alloc, rt, image, &command, out), err),
-        Some(Err(error)) => report_fault(Fault::from(error), err),
-        None => refuse_words(err),
-    }
-}
-
-// The status of a run: that of its verdict, or 1 after its fault is reported.
-fn status_of<E: Write>(ran: Result<Verdict, Fault>, err: &mut E) -> u8
-    ensures status { MatchResult ran (λ verdict. result ≡ status_of_verdict verdict) (λ _. result ≡ 1) }
-    ensures line { MatchResult ran (λ _. err.new ≡ err.old) (λ fault.
-        AppendsPart (E.contents err.old) (E.contents err.new) (fault_line fault)) }
-{
-    match ran {
-        Ok(verdict) => verdict.status(),
-        Err(fault) => report_fault(fault, err),
-    }
-}
 
 /// Opens the image of a path, for writing where the command may change it, runs the command over it, and
 /// closes it. What it prints is flushed, also before a fault. One that reads all tables reads them in pages.
@@ -338,8 +172,11 @@ fn run_and_flush<S: Device, O: Write>(
     after_flush(ran, out.flush())
 }
 
-// What a run comes to whose output was flushed after it: its own fault comes before a failed flush.
-fn after_flush(ran: Result<Verdict, Fault>, flushed: io::Result<()>) -> Result<Verdict, Fault>
+/// What a run comes to whose output was flushed after it: its own fault comes before a failed flush.
+pub(super) fn after_flush(
+    ran: Result<Verdict, Fault>,
+    flushed: io::Result<()>,
+) -> Result<Verdict, Fault>
     ensures own { OnErr ran (result ≡ ran) }
     ensures flush { OnOk ran (MatchResult flushed (λ _. result ≡ ran) (λ _. result ≡ Err StorageFailed)) }
 {
@@ -424,8 +261,8 @@ fn run_with<S: Device, O: Write>(
     }
 }
 
-// What a run returns whose command's own function returns no verdict.
-fn fine(ran: Result<(), Fault>) -> Result<Verdict, Fault>
+/// What a run returns whose command's own function returns no verdict.
+pub(super) fn fine(ran: Result<(), Fault>) -> Result<Verdict, Fault>
     ensures answer { result ≡ fine_unless_failed ran }
     ensures verdict { IfOk result (λ verdict. verdict ≡ Fine) }
 {
