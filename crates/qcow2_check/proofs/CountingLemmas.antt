@@ -15,7 +15,7 @@ use Rattle.qcow2_check.specs.Uses.{ImageTables, block_uses, entry_uses, header_u
 use Rattle.qcow2_check.proofs.FindingsLemmas.{cell_counts}
 use Rattle.qcow2_check.specs.declared.tally.TallyKind.{TallyKind}
 use Rattle.qcow2_check.specs.declared.tally.TallyKind.TheVariants.{Fixed, Guest, L2Table}
-use Rattle.qcow2_check.specs.Walk.{Took, block_list, entries_list, entry_list, guest_list, header_list, l1_list, list_from, counted_use, table_list, tables_list, walked}
+use Rattle.qcow2_check.specs.Walk.{Took, block_list, entries_list, entry_list, guest_list, header_list, l1_list, list_from, counted_use, table_list, tables_list, use_list}
 use Rattle.qcow2_check.specs.declared.uses.Use.{Use}
 
 -- what numbers use, by their places or without
@@ -76,7 +76,7 @@ counted_own tables =
     ∙ ap (λ us. header_uses tables.header ++ flat_map (block_uses cb) tables.reftable ++ us) (counted_list (table_list cb) (table_use cb) (counted_table cb) 0 tables.l1)
 
 -- all that an image uses, likewise
-pub counted_uses : (tables : ImageTables) (image : Image) → map counted_use (walked tables image)
+pub counted_uses : (tables : ImageTables) (image : Image) → map counted_use (use_list tables image)
     ≡ counted_tables tables ++ flat_map (guest_uses (geometry_of tables.header) image) tables.l1
 counted_uses tables image =
     let g = geometry_of tables.header in
@@ -141,7 +141,7 @@ mixed_uses c cell first second all each (v ∷ vs) =
 
 -- so a tally doesn't tell the order of the walk from that of the list of an image's uses
 pub same_counts : (c cell : ℕ) (tables : ImageTables) (image : Image)
-    → fold (cell_with c) cell (map counted_use (walked tables image)) ≡ fold (cell_with c) cell (image_uses tables image)
+    → fold (cell_with c) cell (map counted_use (use_list tables image)) ≡ fold (cell_with c) cell (image_uses tables image)
 same_counts c cell tables image =
     let cb = tables.header.v2.cluster_bits in
     let g = geometry_of tables.header in
@@ -160,10 +160,10 @@ same_counts c cell tables image =
 
 -- what a tally that took them counts
 pub counted_all : (answer : Result (Unit {0}) Fault) (state : StorageState) (tables : ImageTables) (old new : TallyState)
-    → OnOk answer (Took (λ uses. CountsMore (map counted_use uses)) state (walked tables) old new)
+    → OnOk answer (Took (λ uses. CountsMore (map counted_use uses)) state (use_list tables) old new)
     → OnOk answer (OnImage state (λ bytes. CountsMore (image_uses tables bytes) old new))
 counted_all (Ok done) state tables old new took = λ told.
-    let all : CountsMore (map counted_use (walked tables state.byte_at)) old new =
+    let all : CountsMore (map counted_use (use_list tables state.byte_at)) old new =
     subst (λ uses. CountsMore (map counted_use uses) old new) (took.known told) took.taken in
     record {
       first = all.first;
@@ -173,14 +173,14 @@ counted_all (Ok done) state tables old new took = λ told.
 counted_all (Err fault) state tables old new took = tt
 
 pub first_kept : (answer : Result (Unit {0}) Fault) (state : StorageState) (tables : ImageTables) (old new : TallyState)
-    → OnOk answer (Took (λ uses. CountsMore (map counted_use uses)) state (walked tables) old new)
+    → OnOk answer (Took (λ uses. CountsMore (map counted_use uses)) state (use_list tables) old new)
     → OnOk answer (new.first ≡ old.first)
 first_kept (Ok done) state tables old new took = took.taken.first
 first_kept (Err fault) state tables old new took = tt
 
 -- nor does a number of uses
-pub walked_uses : (tables : ImageTables) (image : Image) (c : ℕ) → uses_of (map counted_use (walked tables image)) c ≡ uses_of (image_uses tables image) c
+pub walked_uses : (tables : ImageTables) (image : Image) (c : ℕ) → uses_of (map counted_use (use_list tables image)) c ≡ uses_of (image_uses tables image) c
 walked_uses tables image c =
-    let uses = map counted_use (walked tables image) in
+    let uses = map counted_use (use_list tables image) in
     let cell = fold (cell_with c) 0 uses in
     sym (cell_counts uses c cell refl) ∙ cell_counts (image_uses tables image) c cell (same_counts c 0 tables image)

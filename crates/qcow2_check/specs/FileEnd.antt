@@ -34,8 +34,8 @@ missing_use file [] = None
 missing_use file (one ∷ uses) = if has_use file one then missing_use file uses else Some one
 
 -- a file's end after one use more: the first that the file doesn't have stays
-abbrev pub end_after : FileEnd → Use → FileEnd
-end_after end one = if is_some end.missing || has_use end.clusters one then end else record end { missing = Some one }
+abbrev pub file_end_after : FileEnd → Use → FileEnd
+file_end_after end one = if is_some end.missing || has_use end.clusters one then end else record end { missing = Some one }
 
 -- why a file of this length doesn't have all tables of an image with this header, if it doesn't: the L1 table, the refcount
 -- table, or a table or block that ends past the file's end

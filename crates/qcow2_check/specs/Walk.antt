@@ -17,18 +17,18 @@ use Rattle.qcow2_check.specs.declared.uses.UseKind.{UseKind}
 use Rattle.qcow2_check.specs.declared.uses.UseKind.TheVariants.{Compressed, Data, Header, L1Table, L2Table, RefcountBlock, RefcountTable}
 
 -- that many clusters from one on, used in this way by this owner
-abbrev pub used : UseKind → HostCluster → ℕ → ℕ → Use
-used kind first count owner = record { kind = kind; clusters = record { first = first; count = record { 0 = count } }; owner = owner }
+abbrev pub one_use : UseKind → HostCluster → ℕ → ℕ → Use
+one_use kind first count owner = record { kind = kind; clusters = record { first = first; count = record { 0 = count } }; owner = owner }
 
 -- the header's cluster, the clusters that the L1 table's bytes are in, and those of the refcount table
 abbrev pub header_list : HeaderRecord → List Use
-header_list header = used Header (record { 0 = 0 }) 1 0
-    ∷ used L1Table (l1_cluster header) (div_ceil (8 * header.v2.l1_size) (2 ^ header.v2.cluster_bits)) 0
-    ∷ used RefcountTable (reftable_cluster header) header.v2.refcount_table_clusters 0 ∷ []
+header_list header = one_use Header (record { 0 = 0 }) 1 0
+    ∷ one_use L1Table (l1_cluster header) (div_ceil (8 * header.v2.l1_size) (2 ^ header.v2.cluster_bits)) 0
+    ∷ one_use RefcountTable (reftable_cluster header) header.v2.refcount_table_clusters 0 ∷ []
 
 -- the block that the refcount table entry at an index names
 abbrev pub block_list : ℕ → ℕ → ℕ → List Use
-block_list cb index v = option_to_list (option_map (λ cluster. used RefcountBlock cluster 1 index) (named_block cb v))
+block_list cb index v = option_to_list (option_map (λ cluster. one_use RefcountBlock cluster 1 index) (named_block cb v))
 
 -- what the L2 entry of a guest cluster refers to
 abbrev pub entry_kind : ℕ → UseKind
@@ -49,7 +49,7 @@ entries_list g index numbers = list_from (entry_list g) (index * l2_entries g.cl
 
 -- the L2 table that the L1 entry at an index names
 abbrev pub table_list : ℕ → ℕ → ℕ → List Use
-table_list cb index v = option_to_list (option_map (λ cluster. used L2Table cluster 1 index) (named_cluster cb v))
+table_list cb index v = option_to_list (option_map (λ cluster. one_use L2Table cluster 1 index) (named_cluster cb v))
 
 -- what the entries refer to of the L2 table that the L1 entry at an index names, if it names one
 abbrev pub l1_list : Geometry → Image → ℕ → ℕ → List Use
@@ -69,8 +69,8 @@ abbrev pub guest_list : ImageTables → Image → List Use
 guest_list tables image = list_from (l1_list (geometry_of tables.header) image) 0 tables.l1
 
 -- all that an image with these tables uses, in order
-abbrev pub walked : ImageTables → Image → List Use
-walked tables image = tables_list tables ++ guest_list tables image
+abbrev pub use_list : ImageTables → Image → List Use
+use_list tables image = tables_list tables ++ guest_list tables image
 
 -- what a use may be owned by: the index of an entry of the L1 table or the refcount table, or a guest cluster
 abbrev pub IsOwned : Use → Type 0

@@ -192,7 +192,8 @@ impl UseSink for Tally {
 
     ghost takes_none = { λ s. Prim.grind arith };
 
-    ghost takes_both = { λ first second a b c one other. Prim.grind (arith, one, other, map-append, fold-append) };
+    ghost takes_both = { λ first second a b c one other.
+        Prim.grind (arith, one, other, map-append, fold-append) };
 }
 
 /// How many uses an image has of one cluster at most: one for each entry of the L2 tables that are named,

@@ -7,7 +7,7 @@ ghost use Rattle.std.proofs.lemmas.Grind.{fold-append};
 ghost use Rattle.qcow2_base.specs.declared.fault.Fault.TheVariants.{NoMemory};
 ghost use Rattle.qcow2_metadata.specs.Results.{Reads};
 ghost use Rattle.qcow2_check.specs.Counters.{IsTablesFault};
-ghost use Rattle.qcow2_check.specs.FileEnd.{end_after, has_use, missing_use, tables_in_file};
+ghost use Rattle.qcow2_check.specs.FileEnd.{file_end_after, has_use, missing_use, tables_in_file};
 ghost use Rattle.qcow2_check.specs.Walk.{tables_list};
 
 use crate::image_tables::ImageTables;
@@ -54,7 +54,7 @@ impl FileEnd {
 }
 
 impl UseSink for FileEnd {
-    ghost takes = { λ uses old new. new ≡ fold end_after old uses };
+    ghost takes = { λ uses old new. new ≡ fold file_end_after old uses };
 
     fn take(&mut self, used: Use) -> Result<(), Fault> {
         if self.missing.is_none() && !self.has_use(used) {

@@ -3,7 +3,7 @@
 ghost use Rattle.std.specs.Prelude.{◌≡◌, IfSome, ◌+◌, ◌*◌, ◌<◌, option_to_list, slice_index};
 ghost use Rattle.qcow2_base.specs.Format.{most_l1_entries};
 ghost use Rattle.qcow2_metadata.specs.Table.{l2_entries};
-ghost use Rattle.qcow2_check.specs.Walk.{IsOwned, entry_list, used};
+ghost use Rattle.qcow2_check.specs.Walk.{IsOwned, entry_list, one_use};
 
 use qcow2_base::{ClusterCount, GuestCluster, HostCluster};
 use qcow2_metadata::{ClustersToFreeEntry, L2Table, Table, TableEntry};
@@ -43,7 +43,7 @@ impl Use {
     /// A use of that many clusters from one on.
     #[inline]
     pub fn new(kind: UseKind, first: HostCluster, count: u64, owner: u64) -> Use
-        ensures { result ≡ used kind first count owner }
+        ensures { result ≡ one_use kind first count owner }
     {
         let count = ClusterCount(count);
         Use {

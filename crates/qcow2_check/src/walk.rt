@@ -9,7 +9,7 @@ ghost use Rattle.qcow2_metadata.specs.Results.{Reads, result_map};
 ghost use Rattle.qcow2_metadata.specs.Table.{IsEntryFault, l2_layout, loaded_l2_table};
 ghost use Rattle.qcow2_check.specs.NamedTables.{IsInImage};
 ghost use Rattle.qcow2_check.specs.Uses.{all_load, l1_entry_loads};
-ghost use Rattle.qcow2_check.specs.Walk.{IsOwned, Took, block_list, entries_list, guest_list, header_list, l1_list, list_from, table_list, tables_list, walked};
+ghost use Rattle.qcow2_check.specs.Walk.{IsOwned, Took, block_list, entries_list, guest_list, header_list, l1_list, list_from, table_list, tables_list, use_list};
 
 use crate::image_tables::ImageTables;
 use crate::named_tables::{load_l2_table, named_block, named_cluster};
@@ -178,7 +178,7 @@ pub fn walk_uses<S: Storage, U: UseSink>(
 ) -> Result<(), Fault>
     ensures reads { Reads (λ done. done) result (all_load (geometry_of tables.now.header) tables.now.l1)
         IsEntryFault (S.state image.old) (S.state image.new) }
-    ensures taken { OnOk result (Took U.takes (S.state image.old) (walked tables.now) sink.old sink.new) }
+    ensures taken { OnOk result (Took U.takes (S.state image.old) (use_list tables.now) sink.old sink.new) }
 {
     walk_tables(tables, sink)?;
     walk_guest(tables, image, sink)

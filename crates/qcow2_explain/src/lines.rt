@@ -71,8 +71,8 @@ fn locate_in_file<R: Files + AllocGlobal>(
 /// first.
 ///
 /// Looks at the header, for 18 to 21 at all tables but those of snapshots, for 21 at the image's end, and for
-/// 30, 38 and 40 at counters too. Changes no byte of the image. Returns fault 34 where a read of the image fails, and 35 where memory
-/// runs out.
+/// 30, 38 and 40 at counters too. Changes no byte of the image. Returns fault 34 where a read of the image
+/// fails, and 35 where memory runs out.
 pub fn locate_fault<S: Device>(
     alloc: Global,
     image: &mut S,

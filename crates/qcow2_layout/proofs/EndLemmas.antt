@@ -11,7 +11,7 @@ use Rattle.qcow2_check.specs.Counters.{counter_of}
 use Rattle.qcow2_summary.specs.ImageEnd.{end_of, image_end, is_counted, is_in_use, most_clusters}
 use Rattle.qcow2_check.specs.Tally.{ClusterUse}
 use Rattle.qcow2_check.specs.Uses.{ImageTables, uses_of}
-use Rattle.qcow2_check.specs.Walk.{counted_use, walked}
+use Rattle.qcow2_check.specs.Walk.{counted_use, use_list}
 use Rattle.qcow2_check.specs.declared.uses.Use.{Use}
 use Rattle.qcow2_check.specs.declared.uses.UseKind.{UseKind}
 use Rattle.qcow2_check.specs.declared.uses.UseKind.TheVariants as kind
@@ -106,7 +106,7 @@ taken-is tables image c = by_use (part_in (image_parts tables image) c) refl (is
     by_use : (found : Option Part) → part_in (image_parts tables image) c ≡ found → (counted : Bool) → is_counted tables.header tables.reftable image c ≡ counted
         → not (is_free (part_at tables image c)) ≡ is_counted tables.header tables.reftable image c || is_some (part_in (image_parts tables image) c)
     by_use (Some part) is counted says =
-        let taken : is_free part ≡ false = part-taken (image_parts tables image) c part (none-image tables.header.v2.cluster_bits (walked tables image)) is in
+        let taken : is_free part ≡ false = part-taken (image_parts tables image) c part (none-image tables.header.v2.cluster_bits (use_list tables image)) is in
         let here : part_at tables image c ≡ part = at-use tables image c part is in
         let first : not (is_free (part_at tables image c)) ≡ true = ap (λ p. not (is_free p)) here ∙ ap not taken in
         rw (is, says) (first ∙ sym (or-true counted))
@@ -129,7 +129,7 @@ end-same one other (suc n) same = rw (same n, end-same one other n same) refl
 pub same-end : (tables : ImageTables) (image : Image) → taken_end tables image * 2 ^ tables.header.v2.cluster_bits ≡ image_end tables image
 same-end tables image =
     let cb = tables.header.v2.cluster_bits in
-    let uses = walked tables image in
+    let uses = use_list tables image in
     let some = λ (c : ℕ). placed-is (image_parts tables image) c ∙ same-uses cb uses c
     ∙ sym (used-is (map counted_use uses) c) ∙ ap (λ n. nat_lt 0 n) (walked_uses tables image c) in
     let each = λ (c : ℕ). taken-is tables image c ∙ ap (λ b. is_counted tables.header tables.reftable image c || b) (some c) in

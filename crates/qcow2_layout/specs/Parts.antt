@@ -7,7 +7,7 @@ use Rattle.qcow2_metadata.specs.declared.entries.ClustersToFreeEntry.{ClustersTo
 use Rattle.qcow2_check.specs.Counters.{counter_of}
 use Rattle.qcow2_summary.specs.ImageEnd.{end_of, most_clusters}
 use Rattle.qcow2_check.specs.Uses.{ImageTables}
-use Rattle.qcow2_check.specs.Walk.{walked}
+use Rattle.qcow2_check.specs.Walk.{use_list}
 use Rattle.qcow2_check.specs.declared.uses.Use.{Use}
 use Rattle.qcow2_check.specs.declared.uses.UseKind.{UseKind}
 use Rattle.qcow2_check.specs.declared.uses.UseKind.TheVariants as kind
@@ -41,7 +41,7 @@ placed_as cb one = record { part = part_of cb one.kind one.owner; clusters = one
 -- all clusters that an image with these tables uses, in the order of the walk: those of its header and tables, its blocks, its
 -- L2 tables, and then those of the guest's disk in its order
 abbrev pub image_parts : ImageTables → Image → List PlacedUse
-image_parts tables image = map (placed_as tables.header.v2.cluster_bits) (walked tables image)
+image_parts tables image = map (placed_as tables.header.v2.cluster_bits) (use_list tables image)
 
 -- the part of the first of some uses that has cluster c, if one has it
 abbrev pub part_in : List PlacedUse → ℕ → Option Part

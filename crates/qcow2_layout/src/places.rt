@@ -90,7 +90,8 @@ impl UseSink for Places {
 
     ghost takes_none = { λ s. Prim.grind arith };
 
-    ghost takes_both = { λ first second a b c one other. Prim.grind (arith, one, other, map-append, fold-append) };
+    ghost takes_both = { λ first second a b c one other.
+        Prim.grind (arith, one, other, map-append, fold-append) };
 }
 
 /// Places all clusters that an image uses.

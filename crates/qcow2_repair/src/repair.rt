@@ -30,11 +30,11 @@ use std::alloc::Global;
 /// before on the device. Nothing else changes.
 ///
 /// Returns the fault of `refuse_unrepairable`, of `refuse_tables_past_end` or of `Findings::new`, or of the
-/// first cluster that can't be repaired: 38 where its uses exclude each other, 30 where its counter can't hold their number. Then
-/// comes 24, where the header has no room, or 25 for a name that no loaded header has. No byte has changed
-/// then. Where memory runs out, a part of the steps may be done, and each counter and each entry is the
-/// old one or that of its step. Where the storage fails, any bytes may be in the header's text besides, or
-/// in one table or block.
+/// first cluster that can't be repaired: 38 where its uses exclude each other, 30 where its counter can't
+/// hold their number. Then comes 24, where the header has no room, or 25 for a name that no loaded header
+/// has. No byte has changed then. Where memory runs out, a part of the steps may be done, and each counter
+/// and each entry is the old one or that of its step. Where the storage fails, any bytes may be in the
+/// header's text besides, or in one table or block.
 pub fn repair_image<S: Device>(
     alloc: Global,
     image: &mut S,

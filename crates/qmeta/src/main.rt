@@ -27,8 +27,8 @@ fn main(rt: HostRuntime) -> ExitCode {
     })
 }
 
-// Does what the words of the command line ask for, and returns the status. The storage fault, with no image opened,
-// where the standard descriptors can't be taken. An image that is changed is held until the end.
+// Does what the words of the command line ask for, and returns the status. The storage fault, with no image
+// opened, where the standard descriptors can't be taken. An image that is changed is held until the end.
 fn run(rt: &HostRuntime) -> Result<u8, Fault> {
     let Ok(_taken) = take_standard_descriptors(rt) else {
         return Err(Fault::Storage);

@@ -34,12 +34,12 @@ world file_at out_bytes out err_bytes err = record {
 }
 
 -- the bytes that the output has got
-abbrev pub printed : {O E : Type 0} → World O E → OutputBytes
-printed reached = reached.out_bytes reached.out
+abbrev pub output_bytes : {O E : Type 0} → World O E → OutputBytes
+output_bytes reached = reached.out_bytes reached.out
 
 -- the bytes that standard error has got
-abbrev pub told : {O E : Type 0} → World O E → OutputBytes
-told reached = reached.err_bytes reached.err
+abbrev pub error_bytes : {O E : Type 0} → World O E → OutputBytes
+error_bytes reached = reached.err_bytes reached.err
 
 -- what a run came to gave this status: that of its verdict, or its fault was reported
 abbrev pub EndsAs : Result Verdict Fault → ℕ → OutputBytes → OutputBytes → Type 0
@@ -53,16 +53,16 @@ PrintsAnswer answer before after text = ((lines : List ℕ) × PrintsText answer
 pub record RunsCommand {O E : Type 0} (command : Command) (path : Word) (answer : Result Verdict Fault) (old new : World O E) : Type 0 where
   pub runs : RunsOnFile command (old.file_at path) (new.file_at path) answer old.out_bytes old.out new.out
   pub others : ChangesOne path old.file_at new.file_at
-  pub place : IfSome (facts_of command).place_fault (λ _. IsErr answer × Keeps (printed old) (printed new))
+  pub place : IfSome (facts_of command).place_fault (λ _. IsErr answer × Keeps (output_bytes old) (output_bytes new))
   pub verdict : (facts_of command).has_verdict ≡ false → IfOk answer (λ verdict. verdict ≡ Fine)
 
 -- what was asked for came to this: a text was printed, the place of a fault was told, or a command ran. Only a command changes
 -- files
 abbrev pub Serves : {O E : Type 0} → Asked → Result Verdict Fault → World O E → World O E → Type 0
 Serves (for_text text) answer old new =
-    PrintsText answer (printed old) (printed new) text × IfOk answer (λ verdict. verdict ≡ Fine) × (new.file_at ≡ old.file_at)
+    PrintsText answer (output_bytes old) (output_bytes new) text × IfOk answer (λ verdict. verdict ≡ Fine) × (new.file_at ≡ old.file_at)
 Serves (for_place text path) answer old new =
-    PrintsAnswer answer (printed old) (printed new) text × IfOk answer (λ verdict. verdict ≡ Fine) × (new.file_at ≡ old.file_at)
+    PrintsAnswer answer (output_bytes old) (output_bytes new) text × IfOk answer (λ verdict. verdict ≡ Fine) × (new.file_at ≡ old.file_at)
 Serves (for_command command path) answer old new = RunsCommand command path answer old new
 Serves for_nothing answer old new = ⊥
 
@@ -72,10 +72,10 @@ SameButError old new = (new.out ≡ old.out) × (new.file_at ≡ old.file_at)
 
 -- a run for what was asked for ended with this status: it came to an answer, or nothing was asked for
 abbrev pub RunsRequest : {O E : Type 0} → Asked → ℕ → World O E → World O E → Type 0
-RunsRequest asked status old new = ((answer : Result Verdict Fault) × Serves asked answer old new × EndsAs answer status (told old) (told new))
+RunsRequest asked status old new = ((answer : Result Verdict Fault) × Serves asked answer old new × EndsAs answer status (error_bytes old) (error_bytes new))
     ⊎ ((asked ≡ for_nothing) × (status ≡ 2) × SameButError old new)
 
 -- the same of a line of words that asks for this: or memory ran out for its command, which was reported
 abbrev pub RunsWords : {O E : Type 0} → Asked → ℕ → World O E → World O E → Type 0
 RunsWords asked status old new = RunsRequest asked status old new
-    ⊎ (IsForCommand asked × ReportsFault NoMemory status (told old) (told new) × SameButError old new)
+    ⊎ (IsForCommand asked × ReportsFault NoMemory status (error_bytes old) (error_bytes new) × SameButError old new)

@@ -21,7 +21,8 @@ pub struct Question<'a> {
 impl<'a> Question<'a> {
     /// The question about the fault that a word names by its number, and a path.
     pub(super) fn of(fault: &str, path: &'a str) -> Option<Question<'a>>
-        ensures text { option_map (λ question. question.text.now) result ≡ text_by_number (word_number fault.now) }
+        ensures text { option_map (λ question. question.text.now) result
+            ≡ text_by_number (word_number fault.now) }
         ensures path { IfSome result (λ question. question.path.now ≡ path.now) }
     {
         let number = number(fault)?;

@@ -48,7 +48,8 @@ impl<'a> Request<'a> {
     ) -> Result<Request<'a>, AllocError>
         ensures parsed { IfOk result (λ request. asked_by request
             ≡ named_request name.now (map string_bytes arguments.now)) }
-        ensures memory { IsErr result → IsForCommand (named_request name.now (map string_bytes arguments.now)) }
+        ensures memory { IsErr result →
+            IsForCommand (named_request name.now (map string_bytes arguments.now)) }
     {
         match name {
             "help" | "--help" | "-h" => Ok(Request::for_text(parse_help(arguments))),
@@ -66,7 +67,8 @@ impl<'a> Request<'a> {
     ) -> Result<Request<'a>, AllocError>
         ensures parsed { IfOk result (λ request. asked_by request
             ≡ command_request name.now (map string_bytes arguments.now)) }
-        ensures memory { IsErr result → IsForCommand (command_request name.now (map string_bytes arguments.now)) }
+        ensures memory { IsErr result →
+            IsForCommand (command_request name.now (map string_bytes arguments.now)) }
     {
         let [image, arguments @ ..] = arguments else {
             return Ok(Request::Nothing);

@@ -37,13 +37,13 @@ use std::io::Write;
 /// Opens the image of a path, for writing where the command may change it, runs the command over it, and
 /// closes it. What it prints is flushed, also before a fault. One that reads all tables reads them in pages.
 ///
-/// Returns 34 where the file can't be opened; 35 where memory runs out for the pages. `apply` returns 41 where
-/// the L1 table is too short, and if the image has the data 32 and the position of the first edit that
+/// Returns 34 where the file can't be opened; 35 where memory runs out for the pages. `apply` returns 41
+/// where the L1 table is too short, and if the image has the data 32 and the position of the first edit that
 /// doesn't fit the disk or maps a cluster past the image's end. A regular file and a block device have an
-/// end. After these nothing is printed, and the file is as it was, but for what the load of the header wrote.
-/// Else it returns what `run` does, and 34 where the flush fails. No other file changes, unless it is the
-/// same one. Where `files` say that another program came to the image, 39 comes in place of 34: a part of
-/// what was asked may be done then.
+/// end. After these nothing is printed, and the file is as it was, but for what the load of the header
+/// wrote. Else it returns what `run` does, and 34 where the flush fails. No other file changes, unless it is
+/// the same one. Where `files` say that another program came to the image, 39 comes in place of 34: a part
+/// of what was asked may be done then.
 pub fn run_on_file<R: ImageFiles, O: Write>(
     alloc: Global,
     files: &mut R,
