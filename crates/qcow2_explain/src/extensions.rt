@@ -1,4 +1,4 @@
-//! The header extensions that faults are about.
+//! The header extensions, and which of them faults are about.
 
 ghost use Rattle.std.specs.Prelude.{IsErrOf};
 ghost use Rattle.qcow2_base.specs.Storage.{ReadsFor};
@@ -19,6 +19,23 @@ const LARGEST_CLUSTER: u64 = 1 << 21;
 
 // How many bytes of a feature name table say the name of one feature.
 const FEATURE_NAME_BYTES: u64 = 48;
+
+/// What is wrong with an extension, or what it is about.
+#[derive(Clone, Copy)]
+pub(super) enum ExtensionTopic {
+    /// It ends past the first cluster.
+    PastEnd,
+    /// It must be text, and isn't.
+    NoText,
+    /// Its last feature name is cut.
+    CutName,
+    /// It is the backing format.
+    BackingFormat,
+    /// It is the external data file's name.
+    DataFile,
+    /// It refers to clusters that aren't counted.
+    Uncounted,
+}
 
 /// A header extension: where it stands, its type, and how many bytes its data has.
 #[derive(Clone, Copy)]
@@ -65,12 +82,12 @@ impl fmt::Display for Extension {
     }
 }
 
-/// The extensions of an image's header that a fault is about: those of two texts that differ, or else the
-/// first that can't be read. Version 2 has none. Changes no byte.
+/// The extensions of an image's header of which a topic is true, up to the first that can't be read. Version 2
+/// has none. Changes no byte.
 pub(super) fn extensions_of<S: Storage>(
     alloc: Global,
     image: &mut S,
-    fault: u64,
+    topic: ExtensionTopic,
 ) -> Result<Vec<Place>, Fault>
     ensures storage { ReadsFor (IsErrOf result StorageFailed) (S.state image.old) (S.state image.new) }
 {
@@ -79,14 +96,14 @@ pub(super) fn extensions_of<S: Storage>(
     if read_number(image, 4, 4)? < 3 || cluster_bits > 21 {
         return Ok(Vec::new(alloc));
     }
-    read_chain(alloc, image, fault, header_length, 1 << cluster_bits)
+    read_chain(alloc, image, topic, header_length, 1 << cluster_bits)
 }
 
 // Those of a chain of extensions that begins at an offset, and ends by another one.
 fn read_chain<S: Storage>(
     alloc: Global,
     image: &mut S,
-    fault: u64,
+    topic: ExtensionTopic,
     first: u64,
     end: u64,
 ) -> Result<Vec<Place>, Fault>
@@ -96,7 +113,7 @@ fn read_chain<S: Storage>(
     let mut offset = first;
     for _ in 0..end / 8 {
         let extension = read_extension(image, offset)?;
-        if is_about(alloc, image, fault, &extension, end)? {
+        if is_about(alloc, image, topic, &extension, end)? {
             places.push(Place::Extension(extension))?;
         }
         if extension.is(HeaderExtensionType::End) || extension.end() > end {
@@ -119,11 +136,11 @@ fn read_extension<S: Storage>(image: &mut S, offset: u64) -> Result<Extension, F
     })
 }
 
-// Whether a fault is about an extension of a chain that ends by an offset.
+// Whether a topic is true of an extension of a chain that ends by an offset.
 fn is_about<S: Storage>(
     alloc: Global,
     image: &mut S,
-    fault: u64,
+    topic: ExtensionTopic,
     extension: &Extension,
     end: u64,
 ) -> Result<bool, Fault>
@@ -132,14 +149,16 @@ fn is_about<S: Storage>(
     let is_format = extension.is(HeaderExtensionType::BackingFileFormat);
     let is_data_file = extension.is(HeaderExtensionType::ExternalDataFileName);
     let is_names = extension.is(HeaderExtensionType::FeatureNameTable);
-    match fault {
-        12 => Ok(extension.end() > end),
-        13 if is_format || is_data_file => Ok(!is_text(alloc, image, extension)?),
-        14 => Ok(is_names && extension.length % FEATURE_NAME_BYTES == 1),
-        15 => Ok(is_format),
-        16 => Ok(is_data_file),
-        37 => Ok(UNCOUNTED.contains(&extension.extension_type)),
-        _ => Ok(false),
+    match topic {
+        ExtensionTopic::PastEnd => Ok(extension.end() > end),
+        ExtensionTopic::NoText if is_format || is_data_file => Ok(!is_text(
+            alloc, image, extension,
+        )?),
+        ExtensionTopic::NoText => Ok(false),
+        ExtensionTopic::CutName => Ok(is_names && extension.length % FEATURE_NAME_BYTES == 1),
+        ExtensionTopic::BackingFormat => Ok(is_format),
+        ExtensionTopic::DataFile => Ok(is_data_file),
+        ExtensionTopic::Uncounted => Ok(UNCOUNTED.contains(&extension.extension_type)),
     }
 }
 

@@ -1,4 +1,4 @@
-//! The fields of the header that faults are about.
+//! The fields of the header, and their values in an image.
 
 ghost use Rattle.std.specs.Prelude.{IsErrOf};
 ghost use Rattle.qcow2_base.specs.Storage.{ReadsFor};
@@ -9,11 +9,11 @@ use qcow2_base::{Fault, MAX_FILE_LENGTH, Storage};
 use std::alloc::Global;
 use std::fmt;
 
-/// What fields are looked at for.
+/// What fields of a header say together.
 #[derive(Clone, Copy)]
 pub(super) enum Topic {
-    /// The fault of this number.
-    Fault(u64),
+    /// How many snapshots there are.
+    Snapshots,
     /// Encryption with keys in clusters.
     Encryption,
     /// The place and the length of the L1 table.
@@ -60,63 +60,63 @@ impl Field {
     }
 }
 
-const MAGIC: Field = Field {
+pub(super) const MAGIC: Field = Field {
     name: "magic",
     offset: 0,
     bytes: 4,
     form: Form::Bits,
 };
 
-const VERSION: Field = Field {
+pub(super) const VERSION: Field = Field {
     name: "version",
     offset: 4,
     bytes: 4,
     form: Form::Count,
 };
 
-const BACKING_OFFSET: Field = Field {
+pub(super) const BACKING_OFFSET: Field = Field {
     name: "backing_file_offset",
     offset: 8,
     bytes: 8,
     form: Form::Bits,
 };
 
-const BACKING_SIZE: Field = Field {
+pub(super) const BACKING_SIZE: Field = Field {
     name: "backing_file_size",
     offset: 16,
     bytes: 4,
     form: Form::Count,
 };
 
-const CLUSTER_BITS: Field = Field {
+pub(super) const CLUSTER_BITS: Field = Field {
     name: "cluster_bits",
     offset: 20,
     bytes: 4,
     form: Form::Count,
 };
 
-const SIZE: Field = Field {
+pub(super) const SIZE: Field = Field {
     name: "size",
     offset: 24,
     bytes: 8,
     form: Form::Count,
 };
 
-const L1_SIZE: Field = Field {
+pub(super) const L1_SIZE: Field = Field {
     name: "l1_size",
     offset: 36,
     bytes: 4,
     form: Form::Count,
 };
 
-const L1_OFFSET: Field = Field {
+pub(super) const L1_OFFSET: Field = Field {
     name: "l1_table_offset",
     offset: 40,
     bytes: 8,
     form: Form::Bits,
 };
 
-const REFTABLE_OFFSET: Field = Field {
+pub(super) const REFTABLE_OFFSET: Field = Field {
     name: "refcount_table_offset",
     offset: 48,
     bytes: 8,
@@ -144,62 +144,45 @@ const SNAPSHOTS: Field = Field {
     form: Form::Count,
 };
 
-const INCOMPATIBLE: Field = Field {
+pub(super) const INCOMPATIBLE: Field = Field {
     name: "incompatible_features",
     offset: 72,
     bytes: 8,
     form: Form::Bits,
 };
 
-const AUTOCLEAR: Field = Field {
+pub(super) const AUTOCLEAR: Field = Field {
     name: "autoclear_features",
     offset: 88,
     bytes: 8,
     form: Form::Bits,
 };
 
-const REFCOUNT_ORDER: Field = Field {
+pub(super) const REFCOUNT_ORDER: Field = Field {
     name: "refcount_order",
     offset: 96,
     bytes: 4,
     form: Form::Count,
 };
 
-const HEADER_LENGTH: Field = Field {
+pub(super) const HEADER_LENGTH: Field = Field {
     name: "header_length",
     offset: 100,
     bytes: 4,
     form: Form::Count,
 };
 
-// The fields that a topic is about.
+// The fields that say what a topic is about.
 fn fields_about(topic: Topic) -> &'static [Field] {
     match topic {
-        Topic::Fault(1) => &[MAGIC],
-        Topic::Fault(2) => &[VERSION],
-        Topic::Fault(3) => &[CLUSTER_BITS],
-        Topic::Fault(4) => &[HEADER_LENGTH],
-        Topic::Fault(5) => &[HEADER_LENGTH, CLUSTER_BITS],
-        Topic::Fault(6) => &[L1_OFFSET, CLUSTER_BITS],
-        Topic::Fault(7) => &[REFTABLE_OFFSET, CLUSTER_BITS],
-        Topic::Fault(8) => &[REFCOUNT_ORDER],
-        Topic::Fault(9) => &[BACKING_SIZE],
-        Topic::Fault(10) => &[BACKING_OFFSET, BACKING_SIZE, CLUSTER_BITS],
-        Topic::Fault(11) => &[BACKING_OFFSET, BACKING_SIZE],
-        Topic::Fault(17) => &[INCOMPATIBLE],
-        Topic::Fault(24) => &[AUTOCLEAR, BACKING_SIZE],
-        Topic::Fault(27) => &[VERSION],
-        Topic::Fault(36) => &[INCOMPATIBLE],
-        Topic::Fault(37) => &[SNAPSHOTS],
-        Topic::Fault(41) => &[L1_SIZE, SIZE, CLUSTER_BITS],
-        Topic::Fault(_) => &[],
+        Topic::Snapshots => &[SNAPSHOTS],
         Topic::Encryption => &[CRYPT_METHOD],
         Topic::L1Table => &[L1_SIZE, L1_OFFSET],
         Topic::RefTable => &[REFTABLE_CLUSTERS, REFTABLE_OFFSET],
     }
 }
 
-/// The fields that a topic is about, with their values in the image. Changes no byte.
+/// The fields that say what a topic is about, with their values in the image. Changes no byte.
 pub(super) fn fields_of<S: Storage>(
     alloc: Global,
     image: &mut S,
@@ -207,8 +190,19 @@ pub(super) fn fields_of<S: Storage>(
 ) -> Result<Vec<Place>, Fault>
     ensures storage { ReadsFor (IsErrOf result StorageFailed) (S.state image.old) (S.state image.new) }
 {
+    read_fields(alloc, image, fields_about(topic))
+}
+
+/// Fields with their values in the image. Changes no byte.
+pub(super) fn read_fields<S: Storage>(
+    alloc: Global,
+    image: &mut S,
+    fields: &[Field],
+) -> Result<Vec<Place>, Fault>
+    ensures storage { ReadsFor (IsErrOf result StorageFailed) (S.state image.old) (S.state image.new) }
+{
     let mut places = Vec::new(alloc);
-    for field in fields_about(topic) {
+    for field in fields {
         places.push(read_field(image, *field)?)?;
     }
     Ok(places)

@@ -7,24 +7,30 @@ use std::os::unix::fs::FileTypeExt;
 use std::rt::Files;
 use std::{fs, io};
 
-/// The lines on a file that can't be opened to be read, and to be written to for fault 39, by the system's
-/// word. For fault 34 there are lines on any file.
-pub(super) fn file_lines<R: Files + AllocGlobal>(
-    rt: &R,
-    number: u64,
-    path: &str,
-) -> Result<Option<String>, Fault> {
+/// The line on how a file can be opened, or with the system's word where it can't.
+pub(super) fn file_line<R: Files + AllocGlobal>(rt: &R, path: &str) -> Result<String, Fault> {
     let alloc = rt.alloc();
-    Ok(match (try_open(rt, path, number == 39), number) {
-        (Err(error), 34) => Some(format!(in alloc; "in {path}: {error}\n")?),
-        (Err(error), _) => Some(format!(in alloc;
+    if let Err(error) = try_open(rt, path, false) {
+        return Ok(format!(in alloc; "in {path}: {error}\n")?);
+    }
+    Ok(match try_open(rt, path, true) {
+        Ok(()) => format!(in alloc; "in {path}: the file can be opened, and written to\n")?,
+        Err(error) => format!(in alloc; "in {path}: the file can't be written to: {error}\n")?,
+    })
+}
+
+/// The lines on a file that can't be opened to be read, or for both, if it can't, for which another fault
+/// comes first.
+pub(super) fn unopened_lines<R: Files + AllocGlobal>(
+    rt: &R,
+    path: &str,
+    writable: bool,
+) -> Result<Option<String>, Fault> {
+    Ok(match try_open(rt, path, writable) {
+        Ok(()) => None,
+        Err(error) => Some(format!(in rt.alloc();
             "in {path}: another fault comes first, 34\nin {path}: {error}\n"
         )?),
-        (Ok(()), 34) => Some(match try_open(rt, path, true) {
-            Ok(()) => format!(in alloc; "in {path}: the file can be opened, and written to\n")?,
-            Err(error) => format!(in alloc; "in {path}: the file can't be written to: {error}\n")?,
-        }),
-        (Ok(()), _) => None,
     })
 }
 

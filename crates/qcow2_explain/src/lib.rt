@@ -10,6 +10,7 @@ mod locks;
 mod past_end;
 mod places;
 mod refusals;
+mod searches;
 mod tables;
 
 pub use lines::{fault_lines, locate_fault};

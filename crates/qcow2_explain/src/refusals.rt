@@ -5,10 +5,11 @@ ghost use Rattle.qcow2_base.specs.Storage.{ReadsFor};
 ghost use Rattle.qcow2_base.specs.declared.fault.Fault.TheVariants.{Storage as StorageFailed};
 
 use super::clusters::{cluster_refusal, shared_table_refusal};
-use super::extensions::extensions_of;
-use super::fields::{Topic, fields_of};
+use super::extensions::{ExtensionTopic, extensions_of};
+use super::fields::{Field, Topic, fields_of, read_fields};
 use super::past_end::past_end_refusal;
 use super::places::Place;
+use super::searches::Search;
 use super::tables::table_refusal;
 use qcow2_base::{Fault, MemStorage, Storage, UncountedPart};
 use qcow2_check::{is_l1_short, needed_l1_entries};
@@ -30,33 +31,33 @@ impl Refusal {
         Ok(Refusal { fault, places })
     }
 
-    /// The number of the fault.
-    pub(super) fn number(&self) -> u64 {
-        u64::from(self.fault.number())
+    /// Whether it is by a fault, whatever that carries.
+    pub(super) fn is_by(&self, fault: Fault) -> bool {
+        self.fault.number() == fault.number()
     }
 }
 
-/// Whether a refusal is one by the fault of a number.
-pub(super) fn is_of(refusal: &Option<Refusal>, number: u64) -> bool {
+/// Whether there is a refusal by a fault.
+pub(super) fn is_of(refusal: &Option<Refusal>, fault: Fault) -> bool {
     match refusal {
-        Some(refusal) => refusal.number() == number,
+        Some(refusal) => refusal.is_by(fault),
         None => false,
     }
 }
 
-/// Why an image is refused: by the fault of this number, where it is, or else by one that comes before. Where
-/// the length of its file is known, 21 is also the fault of a table past the file's end. Fails only where
-/// memory runs out or the storage fails. Changes no byte.
+/// Why an image is refused: by this fault, where it is, or else by one that comes before. Where the length of its
+/// file is known, 21 is also the fault of a table past the file's end. Fails only where memory runs out or the
+/// storage fails. Changes no byte.
 pub(super) fn refusal_of<S: Storage>(
     alloc: Global,
     image: &mut S,
-    number: u64,
+    fault: Fault,
     length: Option<u64>,
 ) -> Result<Option<Refusal>, Fault>
     ensures storage { ReadsFor (IsErrOf result StorageFailed) (S.state image.old) (S.state image.new) }
 {
     match Header::load(alloc, image, false) {
-        Ok(header) => image_refusal(alloc, image, &header, number, length),
+        Ok(header) => image_refusal(alloc, image, &header, fault, length),
         Err(fault) => Ok(Some(header_refusal(alloc, image, fault)?)),
     }
 }
@@ -66,15 +67,15 @@ fn image_refusal<S: Storage>(
     alloc: Global,
     image: &mut S,
     header: &Header,
-    number: u64,
+    fault: Fault,
     length: Option<u64>,
 ) -> Result<Option<Refusal>, Fault>
     ensures storage { ReadsFor (IsErrOf result StorageFailed) (S.state image.old) (S.state image.new) }
 {
-    match refusal_by(alloc, image, header, number, length) {
+    match refusal_by(alloc, image, header, fault, length) {
         Err(Fault::NoMemory) => Err(Fault::NoMemory),
         Err(Fault::Storage) => Err(Fault::Storage),
-        Err(fault) => plain_refusal(alloc, image, header, u64::from(fault.number()), length),
+        Err(fault) => plain_refusal(alloc, image, header, fault, length),
         Ok(refusal) => Ok(refusal),
     }
 }
@@ -84,16 +85,15 @@ fn refusal_by<S: Storage>(
     alloc: Global,
     image: &mut S,
     header: &Header,
-    number: u64,
+    fault: Fault,
     length: Option<u64>,
 ) -> Result<Option<Refusal>, Fault>
     ensures storage { ReadsFor (IsErrOf result StorageFailed) (S.state image.old) (S.state image.new) }
 {
-    match number {
-        30 => cluster_refusal(alloc, image, header, Fault::CounterRange),
-        38 => cluster_refusal(alloc, image, header, Fault::Overlap),
-        40 => shared_table_refusal(alloc, image, header),
-        _ => plain_refusal(alloc, image, header, number, length),
+    match Search::of(fault) {
+        Search::Clusters => cluster_refusal(alloc, image, header, fault),
+        Search::SharedTables => shared_table_refusal(alloc, image, header),
+        _ => plain_refusal(alloc, image, header, fault, length),
     }
 }
 
@@ -102,22 +102,29 @@ fn plain_refusal<S: Storage>(
     alloc: Global,
     image: &mut S,
     header: &Header,
-    number: u64,
+    fault: Fault,
     length: Option<u64>,
 ) -> Result<Option<Refusal>, Fault>
     ensures storage { ReadsFor (IsErrOf result StorageFailed) (S.state image.old) (S.state image.new) }
 {
-    match number {
-        18..=21 => refusal_of_tables(alloc, image, header, number, length),
-        24 => room_refusal(alloc, image, header),
-        27 if header.version() == 2 => by_fields(alloc, image, Fault::VersionNeeded),
-        36 if header.external_data_file() => by_fields(alloc, image, Fault::ExternalData),
-        37 => match header.uncounted_part() {
+    match Search::of(fault) {
+        Search::Tables => refusal_of_tables(alloc, image, header, fault, length),
+        Search::Room(fields) => room_refusal(alloc, image, header, fields),
+        Search::Version(fields) if header.version() == 2 => by_fields(alloc, image, fault, fields),
+        Search::DataFile(fields) if header.external_data_file() => {
+            by_fields(alloc, image, fault, fields)
+        }
+        Search::L1Length(fields) if is_l1_short(header) => {
+            short_l1_refusal(alloc, image, header, fields)
+        }
+        Search::UncountedParts => match header.uncounted_part() {
             Some(part) => by_part(alloc, image, part),
             None => Ok(None),
         },
-        41 if is_l1_short(header) => short_l1_refusal(alloc, image, header),
-        _ => Ok(None),
+        Search::Fields(_) | Search::Extensions(_) => Ok(None),
+        Search::Version(_) | Search::DataFile(_) | Search::L1Length(_) => Ok(None),
+        Search::Clusters | Search::SharedTables => Ok(None),
+        Search::File | Search::Locks | Search::Elsewhere(_) => Ok(None),
     }
 }
 
@@ -126,14 +133,14 @@ fn refusal_of_tables<S: Storage>(
     alloc: Global,
     image: &mut S,
     header: &Header,
-    number: u64,
+    fault: Fault,
     length: Option<u64>,
 ) -> Result<Option<Refusal>, Fault>
     ensures storage { ReadsFor (IsErrOf result StorageFailed) (S.state image.old) (S.state image.new) }
 {
-    let refusal = table_refusal(alloc, image, header, number)?;
+    let refusal = table_refusal(alloc, image, header, fault)?;
     match length {
-        Some(length) if number == 21 && refusal.is_none() => {
+        Some(length) if fault == Fault::TablePlace && refusal.is_none() => {
             past_end_refusal(alloc, image, header, length)
         }
         _ => Ok(refusal),
@@ -145,6 +152,7 @@ fn room_refusal<S: Storage>(
     alloc: Global,
     image: &mut S,
     header: &Header,
+    fields: &[Field],
 ) -> Result<Option<Refusal>, Fault>
     ensures storage { ReadsFor (IsErrOf result StorageFailed) (S.state image.old) (S.state image.new) }
 {
@@ -153,7 +161,7 @@ fn room_refusal<S: Storage>(
     let mut copy = MemStorage::new(bytes);
     match Header::load(alloc, &mut copy, true) {
         Ok(_) => Ok(None),
-        Err(Fault::HeaderTooLong) => by_fields(alloc, image, Fault::HeaderTooLong),
+        Err(Fault::HeaderTooLong) => by_fields(alloc, image, Fault::HeaderTooLong, fields),
         Err(fault) => Err(fault),
     }
 }
@@ -163,10 +171,11 @@ fn short_l1_refusal<S: Storage>(
     alloc: Global,
     image: &mut S,
     header: &Header,
+    fields: &[Field],
 ) -> Result<Option<Refusal>, Fault>
     ensures storage { ReadsFor (IsErrOf result StorageFailed) (S.state image.old) (S.state image.new) }
 {
-    let mut places = fields_of(alloc, image, Topic::Fault(41))?;
+    let mut places = read_fields(alloc, image, fields)?;
     places.push(Place::NeededEntries(needed_l1_entries(header)))?;
     let fault = Fault::L1Short;
     Ok(Some(Refusal { fault, places }))
@@ -177,10 +186,12 @@ fn header_refusal<S: Storage>(alloc: Global, image: &mut S, fault: Fault) -> Res
     ensures storage { ReadsFor (IsErrOf result StorageFailed) (S.state image.old) (S.state image.new) }
     ensures passed_on { fault ≡ StorageFailed → IsErrOf result StorageFailed }
 {
-    let number = u64::from(fault.number());
-    let places = match number {
-        1..=11 | 17 => fields_of(alloc, image, Topic::Fault(number))?,
-        12..=16 => extensions_of(alloc, image, number)?,
+    if fault == Fault::Storage {
+        return Err(Fault::Storage);
+    }
+    let places = match Search::of(fault) {
+        Search::Fields(fields) => read_fields(alloc, image, fields)?,
+        Search::Extensions(topic) => extensions_of(alloc, image, topic)?,
         _ => return Err(fault),
     };
     Ok(Refusal { fault, places })
@@ -191,10 +202,11 @@ fn by_fields<S: Storage>(
     alloc: Global,
     image: &mut S,
     fault: Fault,
+    fields: &[Field],
 ) -> Result<Option<Refusal>, Fault>
     ensures storage { ReadsFor (IsErrOf result StorageFailed) (S.state image.old) (S.state image.new) }
 {
-    let places = fields_of(alloc, image, Topic::Fault(u64::from(fault.number())))?;
+    let places = read_fields(alloc, image, fields)?;
     Ok(Some(Refusal { fault, places }))
 }
 
@@ -208,8 +220,8 @@ fn by_part<S: Storage>(
 {
     let fault = Fault::Uncounted(part);
     let places = match part {
-        UncountedPart::Snapshots => fields_of(alloc, image, Topic::Fault(37))?,
-        UncountedPart::Bitmaps => extensions_of(alloc, image, 37)?,
+        UncountedPart::Snapshots => fields_of(alloc, image, Topic::Snapshots)?,
+        UncountedPart::Bitmaps => extensions_of(alloc, image, ExtensionTopic::Uncounted)?,
         UncountedPart::Encryption => places_of_keys(alloc, image)?,
     };
     Ok(Some(Refusal { fault, places }))
@@ -220,7 +232,7 @@ fn by_part<S: Storage>(
 fn places_of_keys<S: Storage>(alloc: Global, image: &mut S) -> Result<Vec<Place>, Fault>
     ensures storage { ReadsFor (IsErrOf result StorageFailed) (S.state image.old) (S.state image.new) }
 {
-    let extensions = extensions_of(alloc, image, 37)?;
+    let extensions = extensions_of(alloc, image, ExtensionTopic::Uncounted)?;
     if extensions.is_empty() {
         return fields_of(alloc, image, Topic::Encryption);
     }

@@ -36,23 +36,22 @@ struct TablePlace {
     entries: usize,
 }
 
-/// The refusal of a table in an image with this header: one by the fault of this number, if there is one, or
-/// else the first. They come in the order of the L1 table, L2 tables, the refcount table and its blocks.
+/// The refusal of a table in an image with this header: one by this fault, if there is one, or else the first. They come in the order of the L1 table, L2 tables, the refcount table and its blocks.
 /// Changes no byte.
 pub(super) fn table_refusal<S: Storage>(
     alloc: Global,
     image: &mut S,
     header: &Header,
-    number: u64,
+    fault: Fault,
 ) -> Result<Option<Refusal>, Fault>
     ensures storage { ReadsFor (IsErrOf result StorageFailed) (S.state image.old) (S.state image.new) }
 {
-    let of_guest = guest_refusal(alloc, image, header, number)?;
-    if is_of(&of_guest, number) {
+    let of_guest = guest_refusal(alloc, image, header, fault)?;
+    if is_of(&of_guest, fault) {
         return Ok(of_guest);
     }
     let of_counters = reftable_refusal(alloc, image, header)?;
-    if of_guest.is_some() && !is_of(&of_counters, number) {
+    if of_guest.is_some() && !is_of(&of_counters, fault) {
         return Ok(of_guest);
     }
     Ok(of_counters)
@@ -63,12 +62,12 @@ fn guest_refusal<S: Storage>(
     alloc: Global,
     image: &mut S,
     header: &Header,
-    number: u64,
+    fault: Fault,
 ) -> Result<Option<Refusal>, Fault>
     ensures storage { ReadsFor (IsErrOf result StorageFailed) (S.state image.old) (S.state image.new) }
 {
     match load_l1_table(alloc, image, header) {
-        Ok(l1_table) => l2_refusal(alloc, image, header, &l1_table, number),
+        Ok(l1_table) => l2_refusal(alloc, image, header, &l1_table, fault),
         Err(fault) => Ok(Some(l1_refusal(alloc, image, header, fault)?)),
     }
 }
@@ -180,13 +179,13 @@ fn first_bad<S: Storage, E: TableEntry>(
     Ok(None)
 }
 
-// The refusal of an L2 table that an L1 table names: one by the fault of this number, or else the first.
+// The refusal of an L2 table that an L1 table names: one by this fault, or else the first.
 fn l2_refusal<S: Storage>(
     alloc: Global,
     image: &mut S,
     header: &Header,
     l1_table: &L1Table,
-    number: u64,
+    fault: Fault,
 ) -> Result<Option<Refusal>, Fault>
     requires { l1_table.now.geometry ≡ geometry_of header.now }
     ensures storage { ReadsFor (IsErrOf result StorageFailed) (S.state image.old) (S.state image.new) }
@@ -194,7 +193,7 @@ fn l2_refusal<S: Storage>(
     let mut first = None;
     for l1_index in 0..l1_table.entries() {
         let refusal = l2_refusal_at(alloc, image, header, l1_table, l1_index)?;
-        if is_of(&refusal, number) {
+        if is_of(&refusal, fault) {
             return Ok(refusal);
         }
         first = first.or(refusal);

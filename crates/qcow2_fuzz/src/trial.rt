@@ -188,10 +188,10 @@ impl<'a> Trial<'a> {
         }
     }
 
-    /// Runs `explain` of a fault's number, and returns its lines on the image.
-    pub(crate) fn explain(&mut self, number: u32) -> Result<String, Fault> {
+    /// Runs `explain` of a fault, and returns its lines on the image.
+    pub(crate) fn explain(&mut self, fault: Fault) -> Result<String, Fault> {
         self.begin();
-        let lines = locate_fault(self.alloc, &mut self.image, u64::from(number), "IMAGE")?;
+        let lines = locate_fault(self.alloc, &mut self.image, fault, "IMAGE")?;
         let is_kept = self.is_kept() || !self.is_fresh;
         self.unless(is_kept, "explain", "each byte as before", "others");
         Ok(lines)

@@ -1,10 +1,10 @@
 //! The texts of `explain`: for each fault what must hold, what mostly breaks it, and what helps.
 
-ghost use Rattle.std.specs.Prelude.{◌≡◌, option_map};
-ghost use Rattle.qcow2_help.specs.FaultTexts.{fault_text, header_fault_text, later_fault_text};
+ghost use Rattle.std.specs.Prelude.{◌≡◌, ◌<◌};
+ghost use Rattle.qcow2_base.specs.Fault.{fault_number};
+ghost use Rattle.qcow2_help.specs.FaultTexts.{fault_text};
 
-/// How many faults there are. Their numbers are 1 to this.
-pub const FAULT_COUNT: u64 = 41;
+use qcow2_base::Fault;
 
 const NOT_QCOW2: &str = "\
 fault 1, NotQcow2: A qcow2 image begins with the four bytes 51 46 49 fb.
@@ -280,76 +280,65 @@ Restore the header from a copy; `qmeta explain 41 IMAGE` says how many entries t
 the disk needs.
 ";
 
-/// What the fault of a number means, if there is one: its number and name, the rule of the format or of a
-/// call that is broken, what mostly breaks it, and what helps.
+/// What a fault means: its number and name, the rule of the format or of a call that is broken, what mostly
+/// breaks it, and what helps. It is the same whatever the fault carries.
 #[tactic(auto, unfolding(crate::specs::FaultTexts::fault_text))]
-pub fn fault_help(number: u64) -> Option<&'static str>
-    ensures { option_map (λ text. text.now) result ≡ fault_text number }
+pub fn fault_help(fault: &Fault) -> &'static str
+    ensures { result.now ≡ fault_text fault.now }
 {
-    if number <= 17 {
-        header_fault_help(number)
-    } else {
-        later_fault_help(number)
+    match fault {
+        Fault::NotQcow2 => NOT_QCOW2,
+        Fault::Version => VERSION,
+        Fault::ClusterSize => CLUSTER_SIZE,
+        Fault::HeaderShort => HEADER_SHORT,
+        Fault::HeaderBig => HEADER_BIG,
+        Fault::L1Unaligned => L1_UNALIGNED,
+        Fault::ReftableUnaligned => REFTABLE_UNALIGNED,
+        Fault::RefcountWidth => REFCOUNT_WIDTH,
+        Fault::BackingNameLong => BACKING_NAME_LONG,
+        Fault::BackingNamePlace => BACKING_NAME_PLACE,
+        Fault::BackingNameText => BACKING_NAME_TEXT,
+        Fault::ExtensionsExceed => EXTENSIONS_EXCEED,
+        Fault::ExtensionText => EXTENSION_TEXT,
+        Fault::FeatureNameCut => FEATURE_NAME_CUT,
+        Fault::FormatConflict => FORMAT_CONFLICT,
+        Fault::DataFileConflict => DATA_FILE_CONFLICT,
+        Fault::Incompatible(_) => INCOMPATIBLE,
+        Fault::EntryReserved => ENTRY_RESERVED,
+        Fault::EntryUnaligned => ENTRY_UNALIGNED,
+        Fault::TableTooBig => TABLE_TOO_BIG,
+        Fault::TablePlace => TABLE_PLACE,
+        Fault::NoOffset => NO_OFFSET,
+        Fault::NotPlaced => NOT_PLACED,
+        _ => later_fault_help(fault),
     }
 }
 
-// The same of faults of headers.
-#[tactic(auto, unfolding(crate::specs::FaultTexts::header_fault_text))]
-fn header_fault_help(number: u64) -> Option<&'static str>
-    ensures { option_map (λ text. text.now) result ≡ header_fault_text number }
+// The same of a fault from 24 on.
+#[tactic(auto, unfolding(crate::specs::FaultTexts::fault_text))]
+fn later_fault_help(fault: &Fault) -> &'static str
+    requires { 23 < fault_number fault.now }
+    ensures { result.now ≡ fault_text fault.now }
 {
-    match number {
-        1 => Some(NOT_QCOW2),
-        2 => Some(VERSION),
-        3 => Some(CLUSTER_SIZE),
-        4 => Some(HEADER_SHORT),
-        5 => Some(HEADER_BIG),
-        6 => Some(L1_UNALIGNED),
-        7 => Some(REFTABLE_UNALIGNED),
-        8 => Some(REFCOUNT_WIDTH),
-        9 => Some(BACKING_NAME_LONG),
-        10 => Some(BACKING_NAME_PLACE),
-        11 => Some(BACKING_NAME_TEXT),
-        12 => Some(EXTENSIONS_EXCEED),
-        13 => Some(EXTENSION_TEXT),
-        14 => Some(FEATURE_NAME_CUT),
-        15 => Some(FORMAT_CONFLICT),
-        16 => Some(DATA_FILE_CONFLICT),
-        17 => Some(INCOMPATIBLE),
-        _ => None,
-    }
-}
-
-// The same of all other faults.
-#[tactic(auto, unfolding(crate::specs::FaultTexts::later_fault_text))]
-fn later_fault_help(number: u64) -> Option<&'static str>
-    ensures { option_map (λ text. text.now) result ≡ later_fault_text number }
-{
-    match number {
-        18 => Some(ENTRY_RESERVED),
-        19 => Some(ENTRY_UNALIGNED),
-        20 => Some(TABLE_TOO_BIG),
-        21 => Some(TABLE_PLACE),
-        22 => Some(NO_OFFSET),
-        23 => Some(NOT_PLACED),
-        24 => Some(HEADER_TOO_LONG),
-        25 => Some(NAME_TOO_LONG),
-        26 => Some(FIELD_CHANGED),
-        27 => Some(VERSION_NEEDED),
-        28 => Some(CANNOT_GROW),
-        29 => Some(TOO_MANY),
-        30 => Some(COUNTER_RANGE),
-        31 => Some(WRONG_LENGTH),
-        32 => Some(BAD_EDIT),
-        33 => Some(BAD_STEP),
-        34 => Some(STORAGE),
-        35 => Some(NO_MEMORY),
-        36 => Some(EXTERNAL_DATA),
-        37 => Some(UNCOUNTED),
-        38 => Some(OVERLAP),
-        39 => Some(IN_USE),
-        40 => Some(SHARED),
-        41 => Some(L1_SHORT),
-        _ => None,
+    match fault {
+        Fault::HeaderTooLong => HEADER_TOO_LONG,
+        Fault::NameTooLong => NAME_TOO_LONG,
+        Fault::FieldChanged(_) => FIELD_CHANGED,
+        Fault::VersionNeeded => VERSION_NEEDED,
+        Fault::CannotGrow => CANNOT_GROW,
+        Fault::TooMany => TOO_MANY,
+        Fault::CounterRange => COUNTER_RANGE,
+        Fault::WrongLength => WRONG_LENGTH,
+        Fault::BadEdit(_) => BAD_EDIT,
+        Fault::BadStep(_) => BAD_STEP,
+        Fault::Storage => STORAGE,
+        Fault::NoMemory => NO_MEMORY,
+        Fault::ExternalData => EXTERNAL_DATA,
+        Fault::Uncounted(_) => UNCOUNTED,
+        Fault::Overlap => OVERLAP,
+        Fault::InUse => IN_USE,
+        Fault::Shared(_) => SHARED,
+        Fault::L1Short => L1_SHORT,
+        _ => "",
     }
 }

@@ -6,4 +6,4 @@ mod commands;
 mod faults;
 
 pub use commands::{command_help, commands_help, version};
-pub use faults::{FAULT_COUNT, fault_help};
+pub use faults::fault_help;

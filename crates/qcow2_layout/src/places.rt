@@ -60,6 +60,7 @@ fn part_of(used: Use, cluster_bits: u32) -> Part
 }
 
 // Places that many clusters from one on, used as a part.
+#[inline(always)]
 #[tactic(auto, using(crate::proofs::WindowLemmas::places_next))]
 fn place_clusters(
     window: &mut Window,
@@ -82,6 +83,9 @@ fn place_clusters(
 impl UseSink for Places {
     ghost takes = { TakesParts };
 
+    // The walk calls it from several places, so it is inlined by word alone. A call for each entry would cost
+    // half as much again as all the rest.
+    #[inline(always)]
     fn take(&mut self, used: Use) -> Result<(), Fault> {
         let part = part_of(used, self.cluster_bits);
         let clusters = used.clusters;

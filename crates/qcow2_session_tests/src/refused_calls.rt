@@ -31,7 +31,7 @@ enum Call {
     StepImage(&'static [Step]),
     LookUp(GuestOffset),
     LookUpImage(GuestOffset),
-    Locate(u64),
+    Locate(Fault),
     Line(&'static str),
 }
 
@@ -112,23 +112,23 @@ const ROWS: &[Row] = rows! {
 // The place of a fault is looked for after the header, and before it's printed no byte is written.
 const PLACES: &[Row] = rows! {
     // a text: three fields, two extensions by two reads each, and the data of the first
-    Row { call: Locate(13), before: NO_TEXT, calls: 2 + 3 + 2 * 2 + 1, after: NO_TEXT,
+    Row { call: Locate(Fault::ExtensionText), before: NO_TEXT, calls: 2 + 3 + 2 * 2 + 1, after: NO_TEXT,
         printed: "in IMAGE: byte 104: extension 0xe2792aca of 1 bytes\n", ..ROW },
     // a header whose name is before its fields takes three reads; then its cluster, and two fields
-    Row { call: Locate(24), before: NO_ROOM, calls: 3 + 1 + 2, after: NO_ROOM,
+    Row { call: Locate(Fault::HeaderTooLong), before: NO_ROOM, calls: 3 + 1 + 2, after: NO_ROOM,
         printed: "in IMAGE: byte 88: autoclear_features is 0x1\n\
             in IMAGE: byte 16: backing_file_size is 2\n", ..ROW },
     // the L1 table and the L2 table, and two entries of the latter
-    Row { call: Locate(18), before: BAD_ENTRY, calls: 2 + 2 + 2, after: BAD_ENTRY,
+    Row { call: Locate(Fault::EntryReserved), before: BAD_ENTRY, calls: 2 + 2 + 2, after: BAD_ENTRY,
         printed: "in IMAGE: guest offset 0x200, L2 entry at 0x408: 0000000000000002\n", ..ROW },
     // these tables and the refcount table, and two entries of that
-    Row { call: Locate(18), before: BAD_BLOCK, calls: 2 + 3 + 2, after: BAD_BLOCK,
+    Row { call: Locate(Fault::EntryReserved), before: BAD_BLOCK, calls: 2 + 3 + 2, after: BAD_BLOCK,
         printed: "in IMAGE: refcount table entry 1, bytes at 0x608: 0000000000000801\n", ..ROW },
     // the three tables and the block
-    Row { call: Locate(30), before: LOW_COUNTER, calls: 2 + 3 + 1, after: LOW_COUNTER,
+    Row { call: Locate(Fault::CounterRange), before: LOW_COUNTER, calls: 2 + 3 + 1, after: LOW_COUNTER,
         printed: "in IMAGE: cluster 5: its counter is 0, and it has 1 uses\n", ..ROW },
     // the L1 table, the refcount table and the block
-    Row { call: Locate(40), before: NOT_COPIED, calls: 2 + 3, after: NOT_COPIED,
+    Row { call: Locate(Fault::Shared(0)), before: NOT_COPIED, calls: 2 + 3, after: NOT_COPIED,
         printed: "in IMAGE: L1 entry 0, bytes at 0x200: 0000000000000400, and its table's counter is 1\n",
         ..ROW },
 };
@@ -203,7 +203,7 @@ fn make(
 fn locate<S: Device>(
     alloc: Global,
     image: &mut S,
-    fault: u64,
+    fault: Fault,
     out: &mut FailingOutput,
 ) -> Result<(), Fault> {
     let lines = locate_fault(alloc, image, fault, "IMAGE")?;

@@ -17,9 +17,9 @@ pub(crate) fn check_faults(trial: &mut Trial<'_>, readings: &Readings) -> Result
 
 /// Looks for a fault.
 pub(crate) fn check_fault(trial: &mut Trial<'_>, fault: Fault) -> Result<(), Fault> {
-    let number = fault.number();
-    let lines = trial.explain(number)?;
+    let lines = trial.explain(fault)?;
     let is_found = lines.as_str() != NONE && lines.as_str().starts_with("in IMAGE: ");
+    let number = fault.number();
     let line = format!(in trial.alloc; "explain {number} IMAGE")?;
     trial.unless(is_found, line.as_str(), "where the fault is", "nothing");
     Ok(())

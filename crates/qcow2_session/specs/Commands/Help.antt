@@ -1,8 +1,11 @@
 -- Which text do words ask for?
-use Rattle.std.specs.Prelude.{ℕ, ◌==◌, ◌++◌, ◌&&◌, ◌||◌, Bool, false, not, if◌then◌else◌, List, [], ◌∷◌, Option, Some, None, bytes_eq, codes, flat_map}
-use Rattle.std.specs.List.{before_first, range_with_len}
+use Rattle.std.specs.Prelude.{ℕ, ◌==◌, ◌++◌, ◌&&◌, ◌||◌, Bool, false, not, if◌then◌else◌, List, [], ◌∷◌, Option, Some, None, bytes_eq, codes, flat_map, option_map}
+use Rattle.std.specs.List.{before_first}
+use Rattle.qcow2_base.specs.Fault.{fault_of}
+use Rattle.qcow2_base.specs.declared.fault.Fault.{Fault}
+use Rattle.qcow2_base.specs.declared.fault.TheConstants.Fault.{ALL}
 use Rattle.qcow2_help.specs.CommandTexts.{command_text, commands_text}
-use Rattle.qcow2_help.specs.FaultTexts.{fault_count, fault_text}
+use Rattle.qcow2_help.specs.FaultTexts.{fault_text}
 use Rattle.qcow2_session.specs.Commands.Words.{Word, WordList}
 use Rattle.qcow2_session.specs.declared.commands.help.HelpText.{HelpText}
 use Rattle.qcow2_session.specs.declared.commands.help.HelpText.TheVariants as help
@@ -11,18 +14,13 @@ use Rattle.qcow2_session.specs.declared.commands.help.HelpText.TheVariants as he
 abbrev pub first_line_of : List ℕ → List ℕ
 first_line_of text = before_first (λ b. b == 10) text
 
--- the first line of a text, where there is one
-abbrev pub rule_in : Option (List ℕ) → List ℕ
-rule_in None = []
-rule_in (Some text) = first_line_of text ++ codes "\n"
-
 -- the first line of the text on a fault
-abbrev pub rule_of : ℕ → List ℕ
-rule_of fault = rule_in (fault_text fault)
+abbrev pub rule_of : Fault → List ℕ
+rule_of fault = first_line_of (fault_text fault) ++ codes "\n"
 
 -- the first lines of the texts on all faults
 abbrev pub all_rules : List ℕ
-all_rules = flat_map rule_of (range_with_len 1 fault_count)
+all_rules = flat_map rule_of ALL
 
 -- a text that words ask for
 abbrev pub text_of : HelpText → List ℕ
@@ -38,7 +36,7 @@ help_text _ = None
 -- the text on the fault that a word may name by its number
 abbrev pub text_by_number : Option ℕ → Option (List ℕ)
 text_by_number None = None
-text_by_number (Some number) = fault_text number
+text_by_number (Some number) = option_map fault_text (fault_of number)
 
 -- this text, where there are no words more
 abbrev pub text_alone : List ℕ → WordList → Option (List ℕ)

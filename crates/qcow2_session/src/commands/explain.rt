@@ -13,21 +13,21 @@ use std::rt::Files;
 /// A fault whose place in an image words ask for.
 #[derive(Clone, Copy)]
 pub struct Question<'a> {
-    number: u64,
+    fault: Fault,
     text: &'static str,
     path: &'a str,
 }
 
 impl<'a> Question<'a> {
     /// The question about the fault that a word names by its number, and a path.
-    pub(super) fn of(fault: &str, path: &'a str) -> Option<Question<'a>>
+    pub(super) fn of(word: &str, path: &'a str) -> Option<Question<'a>>
         ensures text { option_map (λ question. question.text.now) result
-            ≡ text_by_number (word_number fault.now) }
+            ≡ text_by_number (word_number word.now) }
         ensures path { IfSome result (λ question. question.path.now ≡ path.now) }
     {
-        let number = number(fault)?;
-        let text = fault_help(number)?;
-        Some(Question { number, text, path })
+        let fault = Fault::of_number(number(word)?)?;
+        let text = fault_help(&fault);
+        Some(Question { fault, text, path })
     }
 
     /// The text on the fault, and then lines on where it is in the image.
@@ -35,7 +35,7 @@ impl<'a> Question<'a> {
         ensures { IfOk result (λ answer. (lines : List ℕ)
             × (string_bytes answer ≡ self.now.text.now ++ lines)) }
     {
-        let lines = fault_lines(rt, self.number, self.path)?;
+        let lines = fault_lines(rt, self.fault, self.path)?;
         let mut answer = String::from_str(rt.alloc(), self.text)?;
         answer.push_str(lines.as_str())?;
         Ok(answer)

@@ -9,7 +9,7 @@ ghost use Rattle.qcow2_session.specs.Commands.Words.{word_number};
 use super::words::number;
 use crate::lines::print;
 use qcow2_base::Fault;
-use qcow2_help::{FAULT_COUNT, command_help, commands_help, fault_help, version};
+use qcow2_help::{command_help, commands_help, fault_help, version};
 use std::io::Write;
 
 /// A text that words ask for.
@@ -74,7 +74,8 @@ pub(super) fn parse_help(arguments: &[String]) -> Option<HelpText>
 pub(super) fn parse_fault(word: &str) -> Option<HelpText>
     ensures { option_map text_of result ≡ text_by_number (word_number word.now) }
 {
-    fault_help(number(word)?).map(HelpText::Whole)
+    let fault = Fault::of_number(number(word)?)?;
+    Some(HelpText::Whole(fault_help(&fault)))
 }
 
 /// What the words after `version` ask for.
@@ -91,19 +92,17 @@ pub(super) fn parse_version(arguments: &[String]) -> Option<HelpText>
 fn print_rules<O: Write>(out: &mut O) -> Result<(), Fault>
     ensures { PrintsText result (O.contents out.old) (O.contents out.new) all_rules }
 {
-    for index in 0..FAULT_COUNT {
-        print_rule(1 + index, out)?;
+    for fault in &Fault::ALL {
+        print_rule(fault, out)?;
     }
     Ok(())
 }
 
 // Prints the first line of the text on a fault.
-fn print_rule<O: Write>(fault: u64, out: &mut O) -> Result<(), Fault>
-    ensures { PrintsText result (O.contents out.old) (O.contents out.new) (rule_of fault) }
+fn print_rule<O: Write>(fault: &Fault, out: &mut O) -> Result<(), Fault>
+    ensures { PrintsText result (O.contents out.old) (O.contents out.new) (rule_of fault.now) }
 {
-    let Some(text) = fault_help(fault) else {
-        return Ok(());
-    };
+    let text = fault_help(fault);
     print(first_line(text).as_bytes(), out)?;
     print(b"\n", out)
 }

@@ -5,6 +5,7 @@ use super::run::{Failures, NO_FAILURES, check_line, run_line};
 use super::whole_images::sample_file;
 use crate::failing_output::Failure::{Flush, Never, Short, WriteAfter};
 use crate::sample_image::{COPIED, Numbers, check_sample, counted, sample_image};
+use qcow2_base::{Fault, UncountedPart};
 use qcow2_session::commands::locate_fault;
 use qcow2_testing::{
     FaultyFiles, TemporaryFile, each, part_of, rows, same, same_bytes, temporary_file,
@@ -16,119 +17,132 @@ use std::test::Fail;
 // A fault, changes of the sample image, and the lines on where the fault is.
 #[derive(Clone, Copy)]
 struct Row {
-    fault: u64,
+    fault: Fault,
     before: Numbers<'static>,
     lines: &'static str,
 }
 
 const FIELDS: &[Row] = rows! { Row:
-    { fault: 1, before: &[(0, 0x5146_49fc_0000_0003)], lines: "in IMAGE: byte 0: magic is 0x514649fc\n" },
-    { fault: 2, before: &[(0, 0x5146_49fb_0000_0007)], lines: "in IMAGE: byte 4: version is 7\n" },
-    { fault: 3, before: &[(16, 30)], lines: "in IMAGE: byte 20: cluster_bits is 30\n" },
-    { fault: 4, before: &[(96, 0x0000_0004_0000_0067)],
+    { fault: Fault::NotQcow2,
+        before: &[(0, 0x5146_49fc_0000_0003)], lines: "in IMAGE: byte 0: magic is 0x514649fc\n" },
+    { fault: Fault::Version,
+        before: &[(0, 0x5146_49fb_0000_0007)], lines: "in IMAGE: byte 4: version is 7\n" },
+    { fault: Fault::ClusterSize, before: &[(16, 30)], lines: "in IMAGE: byte 20: cluster_bits is 30\n" },
+    { fault: Fault::HeaderShort, before: &[(96, 0x0000_0004_0000_0067)],
         lines: "in IMAGE: byte 100: header_length is 103\n" },
-    { fault: 5, before: &[(96, 0x0000_0004_0000_0201)],
+    { fault: Fault::HeaderBig, before: &[(96, 0x0000_0004_0000_0201)],
         lines: "in IMAGE: byte 100: header_length is 513\nin IMAGE: byte 20: cluster_bits is 9\n" },
-    { fault: 6, before: &[(40, 0x10_0001)],
+    { fault: Fault::L1Unaligned, before: &[(40, 0x10_0001)],
         lines: "in IMAGE: byte 40: l1_table_offset is 0x100001\nin IMAGE: byte 20: cluster_bits is 9\n" },
-    { fault: 7, before: &[(48, 0x700)],
+    { fault: Fault::ReftableUnaligned, before: &[(48, 0x700)],
         lines: "in IMAGE: byte 48: refcount_table_offset is 0x700\nin IMAGE: byte 20: cluster_bits is 9\n" },
-    { fault: 8, before: &[(96, 0x0000_0007_0000_0068)],
+    { fault: Fault::RefcountWidth, before: &[(96, 0x0000_0007_0000_0068)],
         lines: "in IMAGE: byte 96: refcount_order is 7\n" },
-    { fault: 9, before: &[(8, 8), (16, 0x0000_0400_0000_0009)],
+    { fault: Fault::BackingNameLong, before: &[(8, 8), (16, 0x0000_0400_0000_0009)],
         lines: "in IMAGE: byte 16: backing_file_size is 1024\n" },
-    { fault: 10, before: &[(8, 0x200), (16, 0x0000_0001_0000_0009)],
+    { fault: Fault::BackingNamePlace, before: &[(8, 0x200), (16, 0x0000_0001_0000_0009)],
         lines: "in IMAGE: byte 8: backing_file_offset is 0x200\nin IMAGE: byte 16: backing_file_size is 1\n\
             in IMAGE: byte 20: cluster_bits is 9\n" },
     // the name is the byte fb of the magic
-    { fault: 11, before: &[(8, 3), (16, 0x0000_0001_0000_0009)],
+    { fault: Fault::BackingNameText, before: &[(8, 3), (16, 0x0000_0001_0000_0009)],
         lines: "in IMAGE: byte 8: backing_file_offset is 0x3\nin IMAGE: byte 16: backing_file_size is 1\n" },
-    { fault: 17, before: &[(72, 2)], lines: "in IMAGE: byte 72: incompatible_features is 0x2\n" },
-    { fault: 27, before: &[(0, 0x5146_49fb_0000_0002)], lines: "in IMAGE: byte 4: version is 2\n" },
-    { fault: 36, before: &[(72, 4)], lines: "in IMAGE: byte 72: incompatible_features is 0x4\n" },
-    { fault: 37, before: &[(56, 3)], lines: "in IMAGE: byte 60: nb_snapshots is 3\n" },
+    { fault: Fault::Incompatible(2),
+        before: &[(72, 2)], lines: "in IMAGE: byte 72: incompatible_features is 0x2\n" },
+    { fault: Fault::VersionNeeded,
+        before: &[(0, 0x5146_49fb_0000_0002)], lines: "in IMAGE: byte 4: version is 2\n" },
+    { fault: Fault::ExternalData,
+        before: &[(72, 4)], lines: "in IMAGE: byte 72: incompatible_features is 0x4\n" },
+    { fault: Fault::Uncounted(UncountedPart::Snapshots),
+        before: &[(56, 3)], lines: "in IMAGE: byte 60: nb_snapshots is 3\n" },
 };
 
 const EXTENSIONS: &[Row] = rows! { Row:
-    { fault: 12, before: &[(104, 0x0000_0007_0000_0191)],
+    { fault: Fault::ExtensionsExceed, before: &[(104, 0x0000_0007_0000_0191)],
         lines: "in IMAGE: byte 104: extension 0x7 of 401 bytes\n" },
     // the first one ends eight bytes before the first cluster does, and the next with it
-    { fault: 12, before: &[(104, 0x0000_0007_0000_0180), (496, 0x0000_0009_0000_0009)],
+    { fault: Fault::ExtensionsExceed, before: &[(104, 0x0000_0007_0000_0180), (496, 0x0000_0009_0000_0009)],
         lines: "in IMAGE: byte 496: extension 0x9 of 9 bytes\n" },
-    { fault: 13, before: &[(104, 0xe279_2aca_0000_0001), (112, 0xff << 56)],
+    { fault: Fault::ExtensionText, before: &[(104, 0xe279_2aca_0000_0001), (112, 0xff << 56)],
         lines: "in IMAGE: byte 104: extension 0xe2792aca of 1 bytes\n" },
     // the second of two names
-    { fault: 13, before: &[(104, 0x4441_5441_0000_0001), (112, 0x61 << 56), (120, 0x4441_5441_0000_0001),
+    { fault: Fault::ExtensionText,
+        before: &[(104, 0x4441_5441_0000_0001), (112, 0x61 << 56), (120, 0x4441_5441_0000_0001),
         (128, 0xff << 56)], lines: "in IMAGE: byte 120: extension 0x44415441 of 1 bytes\n" },
-    { fault: 14, before: &[(104, 0x6803_f857_0000_0001)],
+    { fault: Fault::FeatureNameCut, before: &[(104, 0x6803_f857_0000_0001)],
         lines: "in IMAGE: byte 104: extension 0x6803f857 of 1 bytes\n" },
-    { fault: 15, before: &[(104, 0xe279_2aca_0000_0001), (112, 0x61 << 56), (120, 0xe279_2aca_0000_0002),
+    { fault: Fault::FormatConflict,
+        before: &[(104, 0xe279_2aca_0000_0001), (112, 0x61 << 56), (120, 0xe279_2aca_0000_0002),
         (128, 0x6261 << 48)], lines: "in IMAGE: byte 104: extension 0xe2792aca of 1 bytes\n\
             in IMAGE: byte 120: extension 0xe2792aca of 2 bytes\n" },
-    { fault: 16, before: &[(104, 0x4441_5441_0000_0001), (112, 0x61 << 56), (120, 0x4441_5441_0000_0002),
+    { fault: Fault::DataFileConflict,
+        before: &[(104, 0x4441_5441_0000_0001), (112, 0x61 << 56), (120, 0x4441_5441_0000_0002),
         (128, 0x6261 << 48)], lines: "in IMAGE: byte 104: extension 0x44415441 of 1 bytes\n\
             in IMAGE: byte 120: extension 0x44415441 of 2 bytes\n" },
-    { fault: 37, before: &[(104, 0x2385_2875_0000_0000)],
+    { fault: Fault::Uncounted(UncountedPart::Bitmaps), before: &[(104, 0x2385_2875_0000_0000)],
         lines: "in IMAGE: byte 104: extension 0x23852875 of 0 bytes\n" },
-    { fault: 37, before: &[(32, 0x0000_0002_0000_0001), (104, 0x0537_be77_0000_0000)],
+    { fault: Fault::Uncounted(UncountedPart::Encryption),
+        before: &[(32, 0x0000_0002_0000_0001), (104, 0x0537_be77_0000_0000)],
         lines: "in IMAGE: byte 104: extension 0x537be77 of 0 bytes\n" },
-    { fault: 37, before: &[(0, 0x5146_49fb_0000_0002), (32, 0x0000_0002_0000_0001)],
+    { fault: Fault::Uncounted(UncountedPart::Encryption),
+        before: &[(0, 0x5146_49fb_0000_0002), (32, 0x0000_0002_0000_0001)],
         lines: "in IMAGE: byte 32: crypt_method is 2\n" },
 };
 
 const TABLES: &[Row] = rows! { Row:
-    { fault: 18, before: &[(512, COPIED + 0x401)],
+    { fault: Fault::EntryReserved, before: &[(512, COPIED + 0x401)],
         lines: "in IMAGE: L1 entry 0, bytes at 0x200: 8000000000000401\n" },
-    { fault: 18, before: &[(1528, 2)],
+    { fault: Fault::EntryReserved, before: &[(1528, 2)],
         lines: "in IMAGE: guest offset 0x7e00, L2 entry at 0x5f8: 0000000000000002\n" },
     // the second L2 table, of guest offset 0x8000 on
-    { fault: 18, before: &[(32, 2), (520, 0x600), (1536 + 16, COPIED + (1 << 62))],
+    { fault: Fault::EntryReserved, before: &[(32, 2), (520, 0x600), (1536 + 16, COPIED + (1 << 62))],
         lines: "in IMAGE: guest offset 0x8400, L2 entry at 0x610: c000000000000000\n" },
-    { fault: 18, before: counted!((0x608, 0x801)),
+    { fault: Fault::EntryReserved, before: counted!((0x608, 0x801)),
         lines: "in IMAGE: refcount table entry 1, bytes at 0x608: 0000000000000801\n" },
     // clusters of 1024 bytes, and an L1 table in the second one
-    { fault: 19, before: &[(16, 10), (40, 0x400), (1024, COPIED + 0x600)],
+    { fault: Fault::EntryUnaligned, before: &[(16, 10), (40, 0x400), (1024, COPIED + 0x600)],
         lines: "in IMAGE: L1 entry 0, bytes at 0x400: 8000000000000600\n" },
-    { fault: 20, before: &[(32, 0x40_0001)],
+    { fault: Fault::TableTooBig, before: &[(32, 0x40_0001)],
         lines: "in IMAGE: byte 36: l1_size is 4194305\nin IMAGE: byte 40: l1_table_offset is 0x200\n" },
-    { fault: 20, before: counted!((56, 0xffff_ffff_0000_0000)),
+    { fault: Fault::TableTooBig, before: counted!((56, 0xffff_ffff_0000_0000)),
         lines: "in IMAGE: byte 56: refcount_table_clusters is 4294967295\n\
             in IMAGE: byte 48: refcount_table_offset is 0x600\n" },
-    { fault: 21, before: &[(32, 65), (40, (1 << 56) - 512)],
+    { fault: Fault::TablePlace, before: &[(32, 65), (40, (1 << 56) - 512)],
         lines: "in IMAGE: byte 36: l1_size is 65\nin IMAGE: byte 40: l1_table_offset is 0xfffffffffffe00\n" },
-    { fault: 21, before: counted!((0x608, 1 << 56)),
+    { fault: Fault::TablePlace, before: counted!((0x608, 1 << 56)),
         lines: "in IMAGE: refcount table entry 1, bytes at 0x608: 0100000000000000\n" },
 };
 
 const COUNTERS: &[Row] = rows! { Row:
     // an autoclear feature, and a name that would not fit after the unknown fields
-    { fault: 24, before: &[(8, 1), (16, 0x0000_0002_0000_0009), (88, 1), (96, 0x0000_0004_0000_01f8)],
+    { fault: Fault::HeaderTooLong,
+        before: &[(8, 1), (16, 0x0000_0002_0000_0009), (88, 1), (96, 0x0000_0004_0000_01f8)],
         lines: "in IMAGE: byte 88: autoclear_features is 0x1\nin IMAGE: byte 16: backing_file_size is 2\n" },
-    { fault: 30, before: counted!((0x808, 0x0001_0000_0000_0000)),
+    { fault: Fault::CounterRange, before: counted!((0x808, 0x0001_0000_0000_0000)),
         lines: "in IMAGE: cluster 5: its counter is 0, and it has 1 uses\n" },
     // the L2 table in cluster 2 is data too
-    { fault: 38, before: counted!((1048, COPIED + 0x400)),
+    { fault: Fault::Overlap, before: counted!((1048, COPIED + 0x400)),
         lines: "in IMAGE: cluster 2: its counter is 1, and it has 2 uses\n" },
-    { fault: 40, before: counted!((512, 0x400)),
+    { fault: Fault::Shared(0), before: counted!((512, 0x400)),
         lines: "in IMAGE: L1 entry 0, bytes at 0x200: 0000000000000400, and its table's counter is 1\n" },
-    { fault: 40, before: counted!((0x800, 0x0001_0001_0002_0001)),
+    { fault: Fault::Shared(0), before: counted!((0x800, 0x0001_0001_0002_0001)),
         lines: "in IMAGE: L1 entry 0, bytes at 0x200: 8000000000000400, and its table's counter is 2\n" },
-    { fault: 40, before: counted! {}, lines: "in IMAGE: this image doesn't have this fault\n" },
-    { fault: 30, before: counted!((56, 0x0000_0001_0000_0001)),
+    { fault: Fault::Shared(0), before: counted! {}, lines: "in IMAGE: this image doesn't have this fault\n" },
+    { fault: Fault::CounterRange, before: counted!((56, 0x0000_0001_0000_0001)),
         lines: "in IMAGE: another fault comes first, 37\nin IMAGE: byte 60: nb_snapshots is 1\n" },
 };
 
 const OTHERS: &[Row] = rows! { Row:
-    { fault: 18, before: &[], lines: "in IMAGE: this image doesn't have this fault\n" },
-    { fault: 3, before: &[], lines: "in IMAGE: this image doesn't have this fault\n" },
-    { fault: 37, before: &[], lines: "in IMAGE: this image doesn't have this fault\n" },
-    { fault: 18, before: &[(0, 0x5146_49fb_0000_0004)],
+    { fault: Fault::EntryReserved, before: &[], lines: "in IMAGE: this image doesn't have this fault\n" },
+    { fault: Fault::ClusterSize, before: &[], lines: "in IMAGE: this image doesn't have this fault\n" },
+    { fault: Fault::Uncounted(UncountedPart::Snapshots),
+        before: &[], lines: "in IMAGE: this image doesn't have this fault\n" },
+    { fault: Fault::EntryReserved, before: &[(0, 0x5146_49fb_0000_0004)],
         lines: "in IMAGE: another fault comes first, 2\nin IMAGE: byte 4: version is 4\n" },
-    { fault: 21, before: &[(512, COPIED + 0x401)],
+    { fault: Fault::TablePlace, before: &[(512, COPIED + 0x401)],
         lines: "in IMAGE: another fault comes first, 18\n\
             in IMAGE: L1 entry 0, bytes at 0x200: 8000000000000401\n" },
     // the fault that is asked for comes after another one
-    { fault: 21, before: counted!((0x608, 1 << 56), (1528, 2)),
+    { fault: Fault::TablePlace, before: counted!((0x608, 1 << 56), (1528, 2)),
         lines: "in IMAGE: refcount table entry 1, bytes at 0x608: 0100000000000000\n" },
 };
 
@@ -148,7 +162,7 @@ fn check_larger(
     (cluster_bits, before, lines): (u32, Numbers<'static>, &str),
 ) -> Result<(), Fail> {
     let mut image = sample_image(alloc, cluster_bits, before)?;
-    let found = locate_fault(alloc, &mut image, 18, "IMAGE")?;
+    let found = locate_fault(alloc, &mut image, Fault::EntryReserved, "IMAGE")?;
     same(found.as_str(), lines, cluster_bits)
 }
 

@@ -1,5 +1,5 @@
 use Rattle.qcow2_base.specs.Storage.{ReadsFor}
-use Rattle.qcow2_explain.proofs.fields.fields_of.Given as goal
+use Rattle.qcow2_explain.proofs.fields.read_fields.Given as goal
 
 -- no byte of the image has changed, and no call has failed
 abbrev pub invariant-loop-field : goal.invariant-loop-field
