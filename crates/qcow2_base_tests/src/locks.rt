@@ -3,7 +3,7 @@
 mod listing;
 
 use listing::Listing;
-use qcow2_base::{Device, Fault, ImageFiles};
+use qcow2_base::{Device, Fault, FileStorage, ImageFiles};
 use qcow2_locks::{FileId, FileLock, GuardedFiles, HeldImage, LockKind, Unlisted, hold_alone};
 use qcow2_testing::{each, file_holds, rows, same, temporary_file, temporary_path};
 use std::alloc::Global;
@@ -319,7 +319,7 @@ fn check_run(rt: &HostRuntime, row: Run) -> Result<(), Fail> {
     let path = file.path.as_str();
     let lists = Listing::new(rt, Some(OWN), Some(FREE))?;
     let held = hold_alone(&lists, path, Unlisted::Refuse)?;
-    let mut files = GuardedFiles::new(rt, &lists, Some(&held));
+    let mut files = GuardedFiles::new(&lists, Some(held.share_file()?), Some(&held));
     let mut image = files.open_image(path, true)?;
     let written = make_calls(&mut image, &lists, row.steps)?;
     same(written, row.written.len(), row)?;
@@ -341,7 +341,8 @@ fn a_file_that_is_not_held_is_passed_on(rt: HostRuntime) -> Result<(), Fail> {
     let file = temporary_file(&rt, "unguarded", &[])?;
     let path = file.path.as_str();
     let lists = Listing::new(&rt, None, None)?;
-    let mut files = GuardedFiles::new(&rt, &lists, None);
+    let image = FileStorage::open(&rt, path, true)?.into_file();
+    let mut files = GuardedFiles::new(&lists, Some(image), None);
     let mut image = files.open_image(path, true)?;
     let written = make_calls(
         &mut image,

@@ -82,8 +82,8 @@ impl fmt::Display for Extension {
     }
 }
 
-/// The extensions of an image's header of which a topic is true, up to the first that can't be read. Version 2
-/// has none. Changes no byte.
+/// The extensions of an image's header of which a topic is true, up to the first that can't be read. Version
+/// 2 has none. Changes no byte.
 pub(super) fn extensions_of<S: Storage>(
     alloc: Global,
     image: &mut S,

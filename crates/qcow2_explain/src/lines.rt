@@ -15,8 +15,8 @@ use std::alloc::{AllocError, Global};
 use std::rt::Files;
 
 /// Lines on where in the image of a file a fault is, each of which begins with `in`, the path and a colon. A
-/// fault that isn't of an image has one line that says what it is of. 34 has one on how the file can be opened,
-/// and 39 one for each lock for which it can't be changed. What the fault carries isn't looked at.
+/// fault that isn't of an image has one line that says what it is of. 34 has one on how the file can be
+/// opened, and 39 one for each lock for which it can't be changed. What the fault carries isn't looked at.
 ///
 /// A file that can't be opened has a line with the system's word. Fails where the storage does or memory runs
 /// out.

@@ -45,9 +45,9 @@ pub(super) fn is_of(refusal: &Option<Refusal>, fault: Fault) -> bool {
     }
 }
 
-/// Why an image is refused: by this fault, where it is, or else by one that comes before. Where the length of its
-/// file is known, 21 is also the fault of a table past the file's end. Fails only where memory runs out or the
-/// storage fails. Changes no byte.
+/// Why an image is refused: by this fault, where it is, or else by one that comes before. Where the length of
+/// its file is known, 21 is also the fault of a table past the file's end. Fails only where memory runs out
+/// or the storage fails. Changes no byte.
 pub(super) fn refusal_of<S: Storage>(
     alloc: Global,
     image: &mut S,

@@ -36,8 +36,9 @@ struct TablePlace {
     entries: usize,
 }
 
-/// The refusal of a table in an image with this header: one by this fault, if there is one, or else the first. They come in the order of the L1 table, L2 tables, the refcount table and its blocks.
-/// Changes no byte.
+/// The refusal of a table in an image with this header: one by this fault, if there is one, or else the
+/// first. They come in the order of the L1 table, L2 tables, the refcount table and its blocks. Changes no
+/// byte.
 pub(super) fn table_refusal<S: Storage>(
     alloc: Global,
     image: &mut S,

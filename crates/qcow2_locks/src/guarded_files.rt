@@ -12,40 +12,41 @@ use std::io;
 use std::io::{ErrorKind, Read, Seek, SeekFrom, Write};
 use std::rt::Files;
 
-/// Opens the file of an image that is held. Before the first write to it, before the first one after each
-/// wait for the device, and after each such wait the system's list of locks is read. A write or a wait fails
-/// where another program has the image open by then. Where no image is held all is passed on.
+/// The files of a run, whose image is open already and may be held. Before the first write to one that is
+/// held, before the first one after each wait for the device, and after each such wait the system's list of
+/// locks is read. A write or a wait fails where another program has the image open by then.
 #[derive(Drop)]
-pub struct GuardedFiles<'a, R, L> {
-    files: &'a R,
-    lists: &'a L,
+pub struct GuardedFiles<'a, R, F> {
+    rt: &'a R,
+    image: Option<F>,
     held: Option<&'a HeldImage>,
 }
 
-impl<'a, R, L> GuardedFiles<'a, R, L> {
-    /// Opens files by the first of these, and reads the list of locks by the second.
-    pub fn new(files: &'a R, lists: &'a L, held: Option<&'a HeldImage>) -> GuardedFiles<'a, R, L> {
-        GuardedFiles { files, lists, held }
+impl<'a, R, F> GuardedFiles<'a, R, F> {
+    /// The image is opened once, as this file. Other files are opened by the runtime, and the list of locks
+    /// is read by it.
+    pub fn new(rt: &'a R, image: Option<F>, held: Option<&'a HeldImage>) -> GuardedFiles<'a, R, F> {
+        GuardedFiles { rt, image, held }
     }
 }
 
 /// A file that is written to only while no other program has come to the image.
 #[derive(Drop)]
-pub struct GuardedFile<'a, F, L> {
+pub struct GuardedFile<'a, R, F> {
     file: F,
-    lists: &'a L,
+    rt: &'a R,
     held: Option<&'a HeldImage>,
     // whether the list was read since the last wait
     may_write: Cell<bool>,
 }
 
-impl<F, L: Files> GuardedFile<'_, F, L> {
+impl<R: Files, F> GuardedFile<'_, R, F> {
     // Fails where another program has come to the image.
     fn refuse_others(&self) -> io::Result<()> {
         let Some(held) = self.held else {
             return Ok(());
         };
-        match held.refuse_others(self.lists) {
+        match held.refuse_others(self.rt) {
             Ok(()) => Ok(()),
             Err(Fault::InUse) => Err(ErrorKind::ResourceBusy.into()),
             Err(_) => Err(ErrorKind::Other.into()),
@@ -68,13 +69,13 @@ impl<F, L: Files> GuardedFile<'_, F, L> {
     }
 }
 
-impl<F: Read, L> Read for GuardedFile<'_, F, L> {
+impl<R, F: Read> Read for GuardedFile<'_, R, F> {
     fn read(&mut self, buf: &mut [u8]) -> io::Result<usize> {
         self.file.read(buf)
     }
 }
 
-impl<F: Write, L: Files> Write for GuardedFile<'_, F, L> {
+impl<R: Files, F: Write> Write for GuardedFile<'_, R, F> {
     fn write(&mut self, buf: &[u8]) -> io::Result<usize> {
         self.begin_change()?;
         self.file.write(buf)
@@ -85,13 +86,13 @@ impl<F: Write, L: Files> Write for GuardedFile<'_, F, L> {
     }
 }
 
-impl<F: Seek, L> Seek for GuardedFile<'_, F, L> {
+impl<R, F: Seek> Seek for GuardedFile<'_, R, F> {
     fn seek(&mut self, to: SeekFrom) -> io::Result<u64> {
         self.file.seek(to)
     }
 }
 
-impl<F: OpenFile, L: Files> OpenFile for GuardedFile<'_, F, L> {
+impl<R: Files, F: OpenFile> OpenFile for GuardedFile<'_, R, F> {
     fn metadata(&self) -> io::Result<Metadata> {
         self.file.metadata()
     }
@@ -112,67 +113,62 @@ impl<F: OpenFile, L: Files> OpenFile for GuardedFile<'_, F, L> {
     }
 }
 
-impl<R: Alloc, L> Alloc for GuardedFiles<'_, R, L> {
+impl<R: Alloc, F> Alloc for GuardedFiles<'_, R, F> {
     type A = R::A;
 
     fn alloc(&self) -> R::A {
-        self.files.alloc()
+        self.rt.alloc()
     }
 }
 
-impl<'a, R: Files, L: Files> Files for GuardedFiles<'a, R, L> {
-    type File = GuardedFile<'a, R::File, L>;
+impl<R: Files, F> Files for GuardedFiles<'_, R, F> {
+    type File = R::File;
 
     type Dir = R::Dir;
 
-    fn open_file(&self, how: &OpenOptions, path: &str) -> io::Result<Self::File> {
-        Ok(GuardedFile {
-            file: self.files.open_file(how, path)?,
-            lists: self.lists,
-            held: self.held,
-            may_write: Cell::new(false),
-        })
+    fn open_file(&self, how: &OpenOptions, path: &str) -> io::Result<R::File> {
+        self.rt.open_file(how, path)
     }
 
     fn open_dir(&self, path: &str) -> io::Result<R::Dir> {
-        self.files.open_dir(path)
+        self.rt.open_dir(path)
     }
 
     fn metadata(&self, path: &str) -> io::Result<Metadata> {
-        self.files.metadata(path)
+        self.rt.metadata(path)
     }
 
     fn symlink_metadata(&self, path: &str) -> io::Result<Metadata> {
-        self.files.symlink_metadata(path)
+        self.rt.symlink_metadata(path)
     }
 
     fn copy(&self, from: &str, to: &str) -> io::Result<u64> {
-        self.files.copy(from, to)
+        self.rt.copy(from, to)
     }
 
     fn rename(&self, from: &str, to: &str) -> io::Result<()> {
-        self.files.rename(from, to)
+        self.rt.rename(from, to)
     }
 
     fn remove_file(&self, path: &str) -> io::Result<()> {
-        self.files.remove_file(path)
+        self.rt.remove_file(path)
     }
 
     fn create_dir(&self, path: &str) -> io::Result<()> {
-        self.files.create_dir(path)
+        self.rt.create_dir(path)
     }
 
     fn remove_dir(&self, path: &str) -> io::Result<()> {
-        self.files.remove_dir(path)
+        self.rt.remove_dir(path)
     }
 
     fn remove_dir_all<B: Allocator>(&self, alloc: B, path: &str) -> io::Result<()> {
-        self.files.remove_dir_all(alloc, path)
+        self.rt.remove_dir_all(alloc, path)
     }
 }
 
-impl<'a, R: Files, L: Files> ImageFiles for GuardedFiles<'a, R, L> {
-    type Image = GuardedFile<'a, R::File, L>;
+impl<'a, R: Files, F: Read + Write + Seek + OpenFile + Drop> ImageFiles for GuardedFiles<'a, R, F> {
+    type Image = GuardedFile<'a, R, F>;
 
     ghost file_at = { λ _ _. unknown_file };
 
@@ -181,7 +177,17 @@ impl<'a, R: Files, L: Files> ImageFiles for GuardedFiles<'a, R, L> {
         path: &str,
         writable: bool,
     ) -> Result<FileStorage<Self::Image>, Fault> {
-        FileStorage::open(self, path, writable)
+        let _ = path;
+        let _ = writable;
+        let Some(file) = self.image.take() else {
+            return Err(Fault::Storage);
+        };
+        Ok(FileStorage::new(GuardedFile {
+            file,
+            rt: self.rt,
+            held: self.held,
+            may_write: Cell::new(false),
+        }))
     }
 
     fn close_image(&mut self, path: &str, image: FileStorage<Self::Image>)

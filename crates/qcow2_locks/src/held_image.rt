@@ -47,6 +47,13 @@ impl HeldImage {
         Ok(())
     }
 
+    /// The file of the image, which is open. It shares its position with what was returned before.
+    pub fn share_file(&self) -> Result<File, Fault>
+        ensures faults { IfErr result IsHoldFault }
+    {
+        self.file.try_clone().map_err(|_| Fault::Storage)
+    }
+
     /// Whether another program has come to the image, as far as `refuse_others` has seen.
     pub fn has_come(&self) -> bool {
         self.has_come.get()
@@ -64,7 +71,7 @@ impl HeldImage {
     }
 }
 
-/// Holds the image of a path alone, before it is opened to be changed. Nothing of it is read or written.
+/// Opens the image of a path to be changed, and holds it alone. Nothing of it is read or written.
 ///
 /// Fault 39 where somebody holds it already, or has it open as QEMU's programs do: to write to it, or to
 /// read it and let nobody write. Also, unless that is allowed, where the system's list of locks can't be

@@ -2,14 +2,11 @@
 
 ghost use Rattle.std.specs.Prelude.{⊤};
 
-use qcow2_base::{Fault, FileStorage};
+use qcow2_base::{Fault, Storage};
 use qcow2_check::{Use, UseSink, load_l1_table, walk_l2_tables};
 use qcow2_metadata::Header;
-use std::alloc::{AllocError, AllocGlobal, Global};
+use std::alloc::{AllocError, Global};
 use std::cell::Cell;
-use std::fs;
-use std::os::unix::fs::FileTypeExt;
-use std::rt::Files;
 
 /// An L2 table: where it begins, and in which pass over all of them it was begun last, 0 for none.
 #[derive(Drop)]
@@ -40,17 +37,11 @@ impl UseSink for TableOffsets {
     ghost takes_both = { λ first second a b c one other. tt };
 }
 
-/// The L2 tables of the image of a file, in the order of their offsets. Fails where the image or its L1 table
-/// can't be read. A pipe isn't opened, and has none.
-pub fn l2_tables<R: Files + AllocGlobal>(rt: &R, path: &str) -> Result<Vec<WatchedTable>, Fault> {
-    let alloc = rt.alloc();
-    match fs::metadata(rt, path) {
-        Ok(metadata) if !metadata.file_type().is_fifo() => {}
-        _ => return Ok(Vec::new(alloc)),
-    }
-    let mut image = FileStorage::open(rt, path, false)?;
-    let header = Header::load(alloc, &mut image, false)?;
-    let l1_table = load_l1_table(alloc, &mut image, &header)?;
+/// The L2 tables of an image, in the order of their offsets. Fails where the image or its L1 table can't be
+/// read.
+pub fn l2_tables<S: Storage>(alloc: Global, image: &mut S) -> Result<Vec<WatchedTable>, Fault> {
+    let header = Header::load(alloc, image, false)?;
+    let l1_table = load_l1_table(alloc, image, &header)?;
     let mut tables = TableOffsets {
         cluster_bits: header.cluster_bits(),
         offsets: Vec::new(alloc),

@@ -1,4 +1,4 @@
-use Rattle.std.proofs.Common.{◌≡◌, ◌≢◌, ℕ, ◌∙◌, List, length, Option, None, Some, Result, Ok, Err, refl, subst, sym, arith, take_all}
+use Rattle.std.proofs.Common.{◌≡◌, ◌≢◌, ℕ, ◌∙◌, List, length, None, Some, Result, Ok, Err, refl, sym, arith, take_all}
 use Rattle.std.specs.Io.KnownBytes.{Appends, Keeps}
 use Rattle.std.specs.Result.{IfOk, MatchResult, OnErr, OnOk}
 use Rattle.qcow2_base.specs.declared.fault.Fault.{Fault}

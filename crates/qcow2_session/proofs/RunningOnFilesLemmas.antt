@@ -1,4 +1,4 @@
-use Rattle.std.proofs.Common.{◌≡◌, ◌≢◌, ◌⊎◌, ℕ, Bool, List, ◌-◌, false, Option, None, Some, Result, Ok, Err, inl, inr, refl, subst, sym, arith, IfSome}
+use Rattle.std.proofs.Common.{◌≡◌, ◌≢◌, ◌⊎◌, ℕ, Bool, List, false, Option, None, Some, Result, Ok, Err, inl, inr, refl, subst, sym, arith, IfSome}
 use Rattle.std.specs.Bool.{IsTrue}
 use Rattle.std.specs.Result.{IfErr, IsErr}
 use Rattle.qcow2_base.specs.Storage.{OnImage, OnlyReads, StorageState}

@@ -4,7 +4,6 @@ use Rattle.std.proofs.lemmas.List.Sums.{sum_by-cons}
 use Rattle.std.specs.List.{sum_by}
 use Rattle.qcow2_base.specs.Storage.{Image}
 use Rattle.qcow2_check.proofs.FindingsListLemmas.{none-just-where-right}
-use Rattle.qcow2_check.specs.Findings.{image_findings}
 use Rattle.qcow2_check.specs.Flags.{image_flags}
 use Rattle.qcow2_check.specs.L1Length.{is_l1_short}
 use Rattle.qcow2_check.specs.Totals.{totals_on, verdict_of}

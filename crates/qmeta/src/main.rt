@@ -1,9 +1,9 @@
 //! `qmeta`: prints what a qcow2 image says about itself, and edits it.
 #![tactic(auto)]
 
-use qcow2_base::Fault;
+use qcow2_base::{Fault, FileStorage};
 use qcow2_locks::{GuardedFiles, HeldImage, Unlisted, hold_alone};
-use qcow2_progress::{Progress, WatchedFiles, WatchedOutput, WatchedTable, l2_tables};
+use qcow2_progress::{Progress, WatchedFile, WatchedOutput, WatchedTable, l2_tables};
 use qcow2_session::{Request, report_fault, run_request};
 use std::env::VarError;
 use std::fs::File;
@@ -28,7 +28,8 @@ fn main(rt: HostRuntime) -> ExitCode {
 }
 
 // Does what the words of the command line ask for, and returns the status. The storage fault, with no image
-// opened, where the standard descriptors can't be taken. An image that is changed is held until the end.
+// opened, where the standard descriptors can't be taken. The image is opened once, and one that is changed is
+// held until the end.
 fn run(rt: &HostRuntime) -> Result<u8, Fault> {
     let Ok(_taken) = take_standard_descriptors(rt) else {
         return Err(Fault::Storage);
@@ -36,21 +37,23 @@ fn run(rt: &HostRuntime) -> Result<u8, Fault> {
     let words = words_of(rt)?;
     let request = Request::parse(rt.alloc(), words.as_slice())?;
     let held = hold_image(rt, &request)?;
-    let tables = watched_tables(rt, &request);
-    run_watched(rt, &request, tables.as_slice(), held.as_ref())
+    let mut image = open_image(rt, &request, held.as_ref())?;
+    let tables = watched_tables(rt, &request, image.as_mut());
+    run_watched(rt, &request, image, tables.as_slice(), held.as_ref())
 }
 
-// Does what words ask for, and says at a terminal how far it is with these tables of the image. One that is
-// held is written to only while no other program has come to it.
+// Does what words ask for with an open image, and says at a terminal how far it is with these tables of it.
+// One that is held is written to only while no other program has come to it.
 fn run_watched(
     rt: &HostRuntime,
     request: &Request<'_>,
+    image: Option<FileStorage>,
     tables: &[WatchedTable],
     held: Option<&HeldImage>,
 ) -> Result<u8, Fault> {
     let progress = Progress::new(rt.alloc(), rt, rt.stderr(), tables);
-    let watched = WatchedFiles::new(rt, &progress);
-    let mut files = GuardedFiles::new(&watched, rt, held);
+    let file = image.map(|image| WatchedFile::new(image.into_file(), &progress));
+    let mut files = GuardedFiles::new(rt, file, held);
     let out = WatchedOutput::new(rt.stdout(), &progress, rt.stdout().is_terminal());
     let mut err = WatchedOutput::new(rt.stderr(), &progress, true);
     let Ok(mut out) = BufWriter::with_capacity(rt.alloc(), OUTPUT_BUFFER, out) else {
@@ -81,12 +84,25 @@ fn words_of(rt: &HostRuntime) -> Result<Vec<String>, Fault> {
     }
 }
 
-// Holds the image of a command that changes it.
+// Opens the image of a command that changes it, and holds it.
 fn hold_image(rt: &HostRuntime, request: &Request<'_>) -> Result<Option<HeldImage>, Fault> {
     match request {
         Request::Command { command, path } if command.changes_image() => {
             Ok(Some(hold_alone(rt, path, unlisted(rt)?)?))
         }
+        _ => Ok(None),
+    }
+}
+
+// The image of a command: the one that is held, or one that is opened to be read.
+fn open_image(
+    rt: &HostRuntime,
+    request: &Request<'_>,
+    held: Option<&HeldImage>,
+) -> Result<Option<FileStorage>, Fault> {
+    match (request, held) {
+        (_, Some(held)) => Ok(Some(FileStorage::new(held.share_file()?))),
+        (Request::Command { path, .. }, None) => Ok(Some(FileStorage::open(rt, path, false)?)),
         _ => Ok(None),
     }
 }
@@ -102,12 +118,16 @@ fn unlisted(rt: &HostRuntime) -> Result<Unlisted, Fault> {
 
 // The L2 tables whose reads are told of: those of the image of a command that reads all, at a terminal. None
 // where they can't be read, as the command will say.
-fn watched_tables(rt: &HostRuntime, request: &Request<'_>) -> Vec<WatchedTable> {
+fn watched_tables(
+    rt: &HostRuntime,
+    request: &Request<'_>,
+    image: Option<&mut FileStorage>,
+) -> Vec<WatchedTable> {
     let none = Vec::new(rt.alloc());
-    match request {
-        Request::Command { command, path }
+    match (request, image) {
+        (Request::Command { command, .. }, Some(image))
             if command.reads_all_tables() && has_terminal_alone(rt) => {
-            l2_tables(rt, path).unwrap_or(none)
+            l2_tables(rt.alloc(), image).unwrap_or(none)
         }
         _ => none,
     }

@@ -1,5 +1,5 @@
 -- Which text do words ask for?
-use Rattle.std.specs.Prelude.{ℕ, ◌==◌, ◌++◌, ◌&&◌, ◌||◌, Bool, false, not, if◌then◌else◌, List, [], ◌∷◌, Option, Some, None, bytes_eq, codes, flat_map, option_map}
+use Rattle.std.specs.Prelude.{ℕ, ◌==◌, ◌++◌, ◌&&◌, ◌||◌, Bool, false, not, List, [], ◌∷◌, Option, Some, None, bytes_eq, codes, flat_map, option_map}
 use Rattle.std.specs.List.{before_first}
 use Rattle.qcow2_base.specs.Fault.{fault_of}
 use Rattle.qcow2_base.specs.declared.fault.Fault.{Fault}

@@ -14,7 +14,7 @@ use std::rt::Files;
 #[derive(Clone, Copy)]
 pub struct Question<'a> {
     fault: Fault,
-    text: &'static str,
+    text: &'a str,
     path: &'a str,
 }
 

@@ -14,17 +14,17 @@ use std::io::Write;
 
 /// A text that words ask for.
 #[derive(Clone, Copy)]
-pub enum HelpText {
+pub enum HelpText<'a> {
     /// This one.
-    Whole(&'static str),
+    Whole(&'a str),
     /// What must hold by each fault, a line each.
     Rules,
 }
 
-impl HelpText {
+impl HelpText<'_> {
     /// Prints it.
     pub(super) fn print<O: Write>(self, out: &mut O) -> Result<(), Fault>
-        ensures { PrintsText result (O.contents out.old) (O.contents out.new) (text_of self) }
+        ensures { PrintsText result (O.contents out.old) (O.contents out.new) (text_of self.entry) }
     {
         match self {
             HelpText::Whole(text) => print(text.as_bytes(), out),
@@ -60,7 +60,7 @@ fn takes_any_name(name: &str) -> bool
 }
 
 /// What the words after `help` ask for.
-pub(super) fn parse_help(arguments: &[String]) -> Option<HelpText>
+pub(super) fn parse_help<'a>(arguments: &[String]) -> Option<HelpText<'a>>
     ensures { option_map text_of result ≡ help_text (map string_bytes arguments.now) }
 {
     match arguments {
@@ -71,7 +71,7 @@ pub(super) fn parse_help(arguments: &[String]) -> Option<HelpText>
 }
 
 /// The text on the fault that a word names by its number.
-pub(super) fn parse_fault(word: &str) -> Option<HelpText>
+pub(super) fn parse_fault<'a>(word: &str) -> Option<HelpText<'a>>
     ensures { option_map text_of result ≡ text_by_number (word_number word.now) }
 {
     let fault = Fault::of_number(number(word)?)?;
@@ -79,7 +79,7 @@ pub(super) fn parse_fault(word: &str) -> Option<HelpText>
 }
 
 /// What the words after `version` ask for.
-pub(super) fn parse_version(arguments: &[String]) -> Option<HelpText>
+pub(super) fn parse_version<'a>(arguments: &[String]) -> Option<HelpText<'a>>
     ensures { option_map text_of result ≡ text_alone version_text (map string_bytes arguments.now) }
 {
     match arguments {

@@ -75,8 +75,8 @@ pub fn run_request<R: Files + ImageFiles + AllocGlobal, O: Write, E: Write>(
 }
 
 // Prints a text, and flushes the output.
-fn print_text<O: Write>(text: HelpText, out: &mut O) -> Result<Verdict, Fault>
-    ensures text { PrintsText result (O.contents out.old) (O.contents out.new) (text_of text) }
+fn print_text<O: Write>(text: HelpText<'_>, out: &mut O) -> Result<Verdict, Fault>
+    ensures text { PrintsText result (O.contents out.old) (O.contents out.new) (text_of text.entry) }
     ensures verdict { IfOk result (λ verdict. verdict ≡ Fine) }
 {
     let printed = text.print(out);

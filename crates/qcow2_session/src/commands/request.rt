@@ -15,7 +15,7 @@ use std::alloc::{AllocError, Global};
 #[derive(Drop)]
 pub enum Request<'a> {
     /// `help`, `version`, `explain` without an image, or a command's name and a word for help.
-    Text(HelpText),
+    Text(HelpText<'a>),
     /// `explain N IMAGE`: where in an image a fault is.
     Question(Question<'a>),
     /// A command over the image of a path.
@@ -94,8 +94,8 @@ impl<'a> Request<'a> {
     }
 
     // A text, if there is one.
-    fn for_text(text: Option<HelpText>) -> Request<'a>
-        ensures { asked_by result ≡ or_nothing for_text (option_map text_of text) }
+    fn for_text(text: Option<HelpText<'a>>) -> Request<'a>
+        ensures { asked_by result ≡ or_nothing for_text (option_map text_of text.entry) }
     {
         match text {
             Some(text) => Request::Text(text),

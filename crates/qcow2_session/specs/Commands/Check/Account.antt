@@ -1,5 +1,5 @@
 -- What does a check find of an image, in numbers?
-use Rattle.std.specs.Prelude.{ℕ, Result}
+use Rattle.std.specs.Prelude.{Result}
 use Rattle.qcow2_base.specs.Storage.{Image}
 use Rattle.qcow2_base.specs.declared.fault.Fault.{Fault}
 use Rattle.qcow2_summary.specs.EntryCounts.{entry_counts}

@@ -6,7 +6,7 @@ use Rattle.qcow2_session.proofs.commands.check.repair_and_check_image.Goals as g
 pub returns-in_err-header : goal.returns-in_err-header
 returns-in_err-header g c =
     let exit = err_from_is_err_and c.from_residual.result c.from_residual.ensures.1 in
-    rw (exit.1, exit.2) (Err c.in_err-header.field-0.0, g.S.Storage.state c.repair_image.new.image, c.in_err-header.ensures.repairs, c.in_err-header.ensures.end, refl, refl, refl)
+    rw (exit.1, exit.2) (Err c.in_err-header.field-0.0, g.S.Storage.state c.repair_image.new.image, c.in_err-header.ensures.repairs, c.in_err-header.ensures.end, (refl, refl, refl))
 
 pub returns : goal.returns
 returns g c =

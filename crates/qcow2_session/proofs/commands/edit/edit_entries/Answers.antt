@@ -1,6 +1,6 @@
-use Rattle.std.proofs.Common.{◌≡◌, ◌++◌, arith, flat_map, refl, rules, ◌∙◌}
+use Rattle.std.proofs.Common.{◌++◌, arith, flat_map, refl, ◌∙◌}
 use Rattle.std.proofs.lemmas.Result.{err_from_is_err_and}
-use Rattle.qcow2_edits.specs.Edits.{are_some, cluster_numbers}
+use Rattle.qcow2_edits.specs.Edits.{are_some}
 use Rattle.qcow2_session.proofs.ChangingLemmas.{change-printed, change-refused, change-unplaced, idle-edits, loads-part, of-any, part-follows, part-refused}
 use Rattle.qcow2_image.proofs.LookupsLemmas.{refused-as}
 use Rattle.qcow2_session.proofs.PrintingLemmas.{last-printed, last-unprinted}
