@@ -1,7 +1,9 @@
 //! What the counters of an image's own blocks are.
 
-use crate::sample_image::{BLOCK, HEADER, Numbers, REFTABLE, counters_of, sample_image};
-use qcow2_testing::{each, rows, same};
+use crate::readers::counters_of;
+use crate::sample_image::sample_image;
+use qcow2_testing::sample_image::{BLOCK, REFTABLE};
+use qcow2_testing::{Numbers, each, rows, same};
 use std::alloc::Global;
 use std::test::Fail;
 
@@ -22,9 +24,9 @@ const COUNTED: &[Counted<'static>] = rows! { Counted:
     { name: "one block after another",
         changes: &[(REFTABLE + 8, 1 << 20), (REFTABLE + 16, BLOCK), (BLOCK + 8, 9 << 32)],
         clusters: &[5, 261, 517, 5, 261, 773], counters: &[9, 0, 9, 9, 0, 0] },
-    { name: "counters of one bit", changes: &[(HEADER + 96, 0x68), (BLOCK, 0x8100_0000_0000_0000)],
+    { name: "counters of one bit", changes: &[(96, 0x68), (BLOCK, 0x8100_0000_0000_0000)],
         clusters: &[0, 1, 6, 7, 8, 55, 103, 4095, 4096], counters: &[1, 0, 0, 1, 0, 0, 0, 0, 0] },
-    { name: "counters of 64 bits", changes: &[(HEADER + 96, 0x0000_0006_0000_0068), (BLOCK + 504, u64::MAX)],
+    { name: "counters of 64 bits", changes: &[(96, 0x0000_0006_0000_0068), (BLOCK + 504, u64::MAX)],
         clusters: &[0, 63, 64], counters: &[0x0001_0001_0001_0001, u64::MAX, 0] },
 };
 

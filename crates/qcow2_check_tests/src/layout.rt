@@ -4,3 +4,5 @@ mod calls;
 mod picture;
 mod refused_calls;
 mod runs;
+
+pub(crate) use calls::runs_of;

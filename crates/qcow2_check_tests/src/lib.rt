@@ -3,15 +3,13 @@
 #![tactic(auto)]
 
 #[cfg(test)]
-mod consistency;
-#[cfg(test)]
 mod counters;
 #[cfg(test)]
-mod findings;
-#[cfg(test)]
-mod flags;
+mod damages;
 #[cfg(test)]
 mod layout;
+#[cfg(test)]
+mod readers;
 #[cfg(test)]
 mod refused_calls;
 #[cfg(test)]

@@ -1,11 +1,10 @@
 //! What a refused call of the storage leaves of a check, and that it is the last of a repair.
 
-use crate::sample_image::{
-    BLOCK, COPIED, HEADER, L1_TABLE, L2_TABLE, Numbers, REFTABLE, findings_of, flags_of, repaired,
-    sample_image,
-};
+use crate::readers::{findings_of, flags_of, repaired};
+use crate::sample_image::sample_image;
 use qcow2_base::Fault;
-use qcow2_testing::{StorageCall, recorded, same, same_bytes};
+use qcow2_testing::sample_image::{BLOCK, L1_TABLE, L2_TABLE, REFTABLE};
+use qcow2_testing::{COPIED, Numbers, StorageCall, recorded, same, same_bytes};
 use std::alloc::{AllocError, Global};
 use std::test::Fail;
 
@@ -65,7 +64,7 @@ fn a_reader_of_flags_goes_on_after_a_refused_read(rt: HostRuntime) -> Result<(),
 // Something for each step of a repair: an autoclear feature, two entries that name cluster 5 with false
 // flags, whose counter is too small, a leaked cluster, and late flags of the L2 table and of cluster 7.
 const TO_REPAIR: Numbers<'static> = &[
-    (HEADER + 88, 1),
+    (88, 1),
     (L1_TABLE, L2_TABLE),
     (L2_TABLE + 32, COPIED | 5 << 9),
     (L2_TABLE + 40, 7 << 9),
@@ -81,7 +80,7 @@ macro_rules! written {
 // What a repair of it writes, and where it waits: the header with its end, then false flags, counters that
 // rise, those that fall, and late flags.
 const REPAIRS: &[StorageCall] = &[
-    written!(HEADER, 112),
+    written!(0, 112),
     StorageCall::Sync,
     written!(L2_TABLE, 512),
     StorageCall::Sync,

@@ -1,16 +1,19 @@
 //! What the tests of all crates run on: comparisons that report the row, a storage and files that fail
-//! where a test plans it, images in memory, files in the temporary folder, all faults, and the conditions
-//! of conversions as tests ask for them.
+//! where a test plans it, images in memory, a small image with damages by name, files in the temporary
+//! folder, all faults, and the conditions of conversions as tests ask for them.
 #![tactic(auto)]
 
 mod comparisons;
 mod conditions;
+pub mod damages;
 mod failing;
 mod faults;
 mod faulty_files;
 mod images;
 mod known_files;
+mod numbers;
 mod pictures;
+pub mod sample_image;
 mod temporary_files;
 
 pub use comparisons::{each, holds, part_of, printed, row_error, same, same_bytes, same_text};
@@ -20,4 +23,5 @@ pub use faults::{FAULTS, ReportedFault};
 pub use faulty_files::{FaultyFile, FaultyFiles, Opens};
 pub use images::{filled_image, image_with, put, put_all, put_bytes, recorded, same_image};
 pub use known_files::{KnownFile, KnownFiles};
+pub use numbers::{COMPRESSED, COPIED, Numbers, VERSION_2, VERSION_3};
 pub use temporary_files::{TemporaryFile, file_holds, temporary_file, temporary_path};

@@ -7,7 +7,7 @@ use std::alloc::Global;
 
 /// All runs of an image, in order, the first hundred of them at most. Where a read is refused, the reader is
 /// called again.
-pub(super) fn runs_of<S: Storage>(alloc: Global, image: &mut S) -> Result<Vec<Run>, Fault> {
+pub(crate) fn runs_of<S: Storage>(alloc: Global, image: &mut S) -> Result<Vec<Run>, Fault> {
     let header = Header::load(alloc, image, false)?;
     let mut found = Vec::new(alloc);
     read_runs(alloc, image, &header, &mut found)?;

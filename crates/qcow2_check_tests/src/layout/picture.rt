@@ -1,10 +1,11 @@
 //! The squares of a picture, and which images have none.
 
 use super::calls::shapes_of_image;
-use crate::sample_image::{BLOCK, HEADER, L2_TABLE, NEXT_ENTRY, Numbers, REFTABLE, sample_image};
+use crate::sample_image::sample_image;
 use qcow2_base::Fault;
 use qcow2_layout::Shape;
-use qcow2_testing::{each, rows, same};
+use qcow2_testing::sample_image::{BLOCK, L2_TABLE, LAST, NEXT_ENTRY, REFTABLE};
+use qcow2_testing::{Numbers, each, rows, same};
 use std::alloc::Global;
 use std::test::Fail;
 
@@ -12,8 +13,8 @@ use std::test::Fail;
 struct Painted<'a> {
     name: &'a str,
     changes: Numbers<'a>,
-    // The shapes after those of the first five clusters, which are header, L1 table, refcount table, block
-    // and L2 table.
+    // The shapes after those of the first five clusters, which are header, L1 table, L2 table, refcount table
+    // and block.
     shapes: &'a [Shape],
 }
 
@@ -24,21 +25,21 @@ macro_rules! shapes {
     };
 }
 
-const TABLES: &[Shape] = shapes! { 0 + 2 10, 2 + 2 11, 4 + 1 10 };
+const TABLES: &[Shape] = shapes! { 0 + 3 10, 3 + 2 11 };
 
 // An eighth of the disk is 8192 bytes long.
 const SMALL: &[Painted<'static>] = rows! { Painted:
     { name: "a cluster of data", changes: &[], shapes: shapes! { 5 + 1 1 } },
     { name: "data in a row, in two eighths of the disk",
         changes: &[(L2_TABLE + 120, 3072), (L2_TABLE + 128, 3584)], shapes: shapes! { 5 + 2 1, 7 + 1 2 } },
-    { name: "a disk of eight bytes more", changes: &[(HEADER + 24, 65544), (L2_TABLE + 128, 3072)],
+    { name: "a disk of eight bytes more", changes: &[(24, 65544), (L2_TABLE + 128, 3072)],
         shapes: shapes! { 5 + 2 1 } },
-    { name: "a disk of eight clusters", changes: &[(HEADER + 24, 4096), (L2_TABLE + 56, 3072)],
+    { name: "a disk of eight clusters", changes: &[(24, 4096), (L2_TABLE + 56, 3072)],
         shapes: shapes! { 5 + 1 4, 6 + 1 8 } },
     { name: "data of the last eighth that the table maps", changes: &[(L2_TABLE + 504, 3072)],
         shapes: shapes! { 5 + 1 1, 6 + 1 4 } },
-    { name: "data past the end of the disk", changes: &[(HEADER + 24, 512)], shapes: shapes! { 5 + 1 8 } },
-    { name: "an empty disk", changes: &[(HEADER + 24, 0)], shapes: shapes! { 5 + 1 8 } },
+    { name: "data past the end of the disk", changes: &[(24, 512)], shapes: shapes! { 5 + 1 8 } },
+    { name: "an empty disk", changes: &[(24, 0)], shapes: shapes! { 5 + 1 8 } },
     { name: "compressed data", changes: &[(NEXT_ENTRY, 1 << 62 | 3072)],
         shapes: shapes! { 5 + 1 1, 6 + 1 9 } },
     { name: "leaked clusters after free ones", changes: &[(BLOCK + 16, 0x0000_0001_0002_0000)],
@@ -54,8 +55,8 @@ fn each_square_has_the_colour_of_its_cluster(rt: HostRuntime) -> Result<(), Fail
 
 fn check_painted(alloc: Global, row: Painted<'_>) -> Result<(), Fail> {
     let (scale, shapes) = shapes_of_image(alloc, &mut sample_image(alloc, row.changes)?)?;
-    same((scale, shapes.get(..3)), (1, Some(TABLES)), row.name)?;
-    same(shapes.get(3..), Some(row.shapes), row.name)
+    same((scale, shapes.get(..2)), (1, Some(TABLES)), row.name)?;
+    same(shapes.get(2..), Some(row.shapes), row.name)
 }
 
 #[derive(Clone, Copy)]
@@ -69,18 +70,15 @@ struct Scaled<'a> {
     last: Shape,
 }
 
-// The greatest offset of a cluster.
-const LAST: u64 = (1 << 56) - 512;
-
 const LARGE: &[Scaled<'static>] = rows! { Scaled:
-    { name: "4096 clusters", changes: &[(NEXT_ENTRY, 4095 << 9)], scale: 1, count: 69,
-        first: shapes! { 0 + 2 10, 2 + 2 11, 4 + 1 10, 5 + 1 1, 6 + 58 0 },
+    { name: "4096 clusters", changes: &[(NEXT_ENTRY, 4095 << 9)], scale: 1, count: 68,
+        first: shapes! { 0 + 3 10, 3 + 2 11, 5 + 1 1, 6 + 58 0 },
         last: Shape { first: 4095, count: 1, shade: 1 } },
-    { name: "one cluster more", changes: &[(NEXT_ENTRY, 4096 << 9)], scale: 2, count: 36,
-        first: shapes! { 0 + 1 10, 1 + 1 11, 2 + 1 10, 3 + 61 0, 64 + 64 0 },
+    { name: "one cluster more", changes: &[(NEXT_ENTRY, 4096 << 9)], scale: 2, count: 35,
+        first: shapes! { 0 + 1 10, 1 + 2 11, 3 + 61 0, 64 + 64 0 },
         last: Shape { first: 2048, count: 1, shade: 1 } },
-    { name: "8192 clusters", changes: &[(NEXT_ENTRY, 8191 << 9)], scale: 2, count: 68,
-        first: shapes! { 0 + 1 10, 1 + 1 11, 2 + 1 10, 3 + 61 0 },
+    { name: "8192 clusters", changes: &[(NEXT_ENTRY, 8191 << 9)], scale: 2, count: 67,
+        first: shapes! { 0 + 1 10, 1 + 2 11, 3 + 61 0 },
         last: Shape { first: 4095, count: 1, shade: 1 } },
     // cluster 11 is leaked, and in the second square with eight clusters
     { name: "32768 clusters, one of them leaked", changes: &[(NEXT_ENTRY, 32767 << 9), (BLOCK + 16, 1)],

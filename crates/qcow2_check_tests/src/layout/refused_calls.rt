@@ -1,9 +1,10 @@
 //! What a refused call of the storage leaves of a layout.
 
 use super::calls::{runs_of, shapes_of_image};
-use crate::sample_image::{L2_TABLE, Numbers, REFTABLE, sample_image};
+use crate::sample_image::sample_image;
 use qcow2_base::Fault;
-use qcow2_testing::{recorded, same, same_bytes};
+use qcow2_testing::sample_image::{L2_TABLE, REFTABLE};
+use qcow2_testing::{Numbers, recorded, same, same_bytes};
 use std::test::Fail;
 
 // More calls of the storage than a layout of the image makes.

@@ -1,12 +1,11 @@
-//! What the clusters of an image are, and which images are refused.
+//! What the clusters of an image are.
 
 use super::calls::runs_of;
-use crate::sample_image::{
-    BLOCK, HEADER, L1_TABLE, L2_TABLE, NEXT_ENTRY, Numbers, REFTABLE, sample_image,
-};
-use qcow2_base::{Fault, GuestOffset, HostCluster, UncountedPart};
+use crate::sample_image::sample_image;
+use qcow2_base::{GuestOffset, HostCluster};
 use qcow2_layout::{Part, Run};
-use qcow2_testing::{each, rows, same};
+use qcow2_testing::sample_image::{BLOCK, L1_TABLE, L2_TABLE, LAST, NEXT_ENTRY, REFTABLE};
+use qcow2_testing::{Numbers, each, rows, same};
 use std::alloc::Global;
 use std::test::Fail;
 
@@ -31,8 +30,8 @@ const FIRST: Part = Part::Data(GuestOffset(1536));
 const NEXT: Part = Part::Data(GuestOffset(2048));
 
 // The clusters of the sample image before its data.
-const TABLES: &[Run] = runs! { 0 + 1 Part::Header, 1 + 1 Part::L1Table, 2 + 1 Part::RefcountTable,
-    3 + 1 Part::RefcountBlock, 4 + 1 Part::L2Table };
+const TABLES: &[Run] = runs! { 0 + 1 Part::Header, 1 + 1 Part::L1Table, 2 + 1 Part::L2Table,
+    3 + 1 Part::RefcountTable, 4 + 1 Part::RefcountBlock };
 
 const GUEST: &[Laid<'static>] = rows! { Laid:
     { name: "a cluster of data", changes: &[], runs: runs! { 5 + 1 FIRST } },
@@ -50,7 +49,7 @@ const GUEST: &[Laid<'static>] = rows! { Laid:
         changes: &[(L1_TABLE + 8, 3072), (3072, 2560), (3080, 3584)],
         runs: runs! { 5 + 1 FIRST, 6 + 1 Part::L2Table, 7 + 1 Part::Data(GuestOffset(33280)) } },
     { name: "a kept cluster of zeros", changes: &[(NEXT_ENTRY, 3073)], runs: runs! { 5 + 2 FIRST } },
-    { name: "data in another file", changes: &[(HEADER + 72, 4)], runs: runs! { 5 + 1 Part::Leaked } },
+    { name: "data in another file", changes: &[(72, 4)], runs: runs! { 5 + 1 Part::Leaked } },
 };
 
 const COMPRESSED: &[Laid<'static>] = rows! { Laid:
@@ -86,9 +85,6 @@ const UNUSED: &[Laid<'static>] = rows! { Laid:
         runs: runs! { 5 + 1 FIRST, 6 + 1 Part::RefcountBlock, 7 + 504 Part::Free, 511 + 1 Part::Leaked,
             512 + 488 Part::Free, 1000 + 1 NEXT } },
 };
-
-// The greatest offset of a cluster.
-const LAST: u64 = (1 << 56) - 512;
 
 const FAR: &[Laid<'static>] = rows! { Laid:
     // a window has 4096 clusters one after another, so that these are of two
@@ -136,21 +132,21 @@ const TABLES_FIRST: &[Laid<'static>] = rows! { Laid:
     // all runs
     { name: "data in each table", changes: &[(NEXT_ENTRY, 512), (NEXT_ENTRY + 8, REFTABLE),
         (NEXT_ENTRY + 16, BLOCK), (L2_TABLE, L2_TABLE), (L2_TABLE + 8, 1 << 62 | 100)],
-        runs: runs! { 0 + 1 Part::Header, 1 + 1 Part::L1Table, 2 + 1 Part::RefcountTable,
-            3 + 1 Part::RefcountBlock, 4 + 1 Part::L2Table, 5 + 1 FIRST } },
+        runs: runs! { 0 + 1 Part::Header, 1 + 1 Part::L1Table, 2 + 1 Part::L2Table,
+            3 + 1 Part::RefcountTable, 4 + 1 Part::RefcountBlock, 5 + 1 FIRST } },
     // the L1 entry is the counters of clusters 0 to 3 then, of which the last isn't 0
     { name: "an L2 table in the refcount table, and a block in the L1 table",
         changes: &[(L1_TABLE, REFTABLE), (REFTABLE, 512)],
-        runs: runs! { 0 + 1 Part::Header, 1 + 1 Part::L1Table, 2 + 1 Part::RefcountTable,
-            3 + 1 Part::Leaked } },
+        runs: runs! { 0 + 1 Part::Header, 1 + 1 Part::L1Table, 2 + 1 Part::Free,
+            3 + 1 Part::RefcountTable } },
     { name: "no block", changes: &[(REFTABLE, 0)],
-        runs: runs! { 0 + 1 Part::Header, 1 + 1 Part::L1Table, 2 + 1 Part::RefcountTable,
-            3 + 1 Part::Free, 4 + 1 Part::L2Table, 5 + 1 FIRST } },
-    // the refcount table lies in cluster 6 then
+        runs: runs! { 0 + 1 Part::Header, 1 + 1 Part::L1Table, 2 + 1 Part::L2Table,
+            3 + 1 Part::RefcountTable, 4 + 1 Part::Free, 5 + 1 FIRST } },
+    // the L2 table lies in cluster 6 then
     { name: "an L1 table of two clusters",
-        changes: &[(HEADER + 32, 65), (HEADER + 48, 3072), (REFTABLE, 0), (3072, BLOCK)],
-        runs: runs! { 0 + 1 Part::Header, 1 + 2 Part::L1Table, 3 + 1 Part::RefcountBlock,
-            4 + 1 Part::L2Table, 5 + 1 FIRST, 6 + 1 Part::RefcountTable } },
+        changes: &[(32, 65), (L1_TABLE, 3072), (L2_TABLE + 24, 0), (3072 + 24, 2560)],
+        runs: runs! { 0 + 1 Part::Header, 1 + 2 Part::L1Table, 3 + 1 Part::RefcountTable,
+            4 + 1 Part::RefcountBlock, 5 + 1 FIRST, 6 + 1 Part::L2Table } },
 };
 
 fn check_all_laid(alloc: Global, row: Laid<'_>) -> Result<(), Fail> {
@@ -161,32 +157,4 @@ fn check_all_laid(alloc: Global, row: Laid<'_>) -> Result<(), Fail> {
 #[test]
 fn tables_win_over_what_else_uses_their_clusters(rt: HostRuntime) -> Result<(), Fail> {
     each(rt.alloc(), TABLES_FIRST, check_all_laid)
-}
-
-#[derive(Clone, Copy)]
-struct Refused<'a> {
-    name: &'a str,
-    changes: Numbers<'a>,
-    fault: Fault,
-}
-
-const REFUSED: &[Refused<'static>] = rows! { Refused:
-    { name: "snapshots before a bad L1 table", changes: &[(HEADER + 60, 1 << 32), (L1_TABLE, 1)],
-        fault: Fault::Uncounted(UncountedPart::Snapshots) },
-    { name: "an L1 entry before the place of a block", changes: &[(L1_TABLE + 8, 1), (REFTABLE + 8, 1 << 56)],
-        fault: Fault::EntryReserved },
-    { name: "a refcount table past the end", changes: &[(HEADER + 48, 1 << 56)], fault: Fault::TablePlace },
-    { name: "a block past the end before an L2 entry", changes: &[(REFTABLE + 504, 1 << 56), (L2_TABLE, 2)],
-        fault: Fault::TablePlace },
-    { name: "the last L2 entry", changes: &[(L2_TABLE + 504, 2)], fault: Fault::EntryReserved },
-};
-
-fn check_refused(alloc: Global, row: Refused<'_>) -> Result<(), Fail> {
-    let found = runs_of(alloc, &mut sample_image(alloc, row.changes)?);
-    same(found.err(), Some(row.fault), row.name)
-}
-
-#[test]
-fn an_image_whose_tables_cannot_be_read_is_refused(rt: HostRuntime) -> Result<(), Fail> {
-    each(rt.alloc(), REFUSED, check_refused)
 }

@@ -1,0 +1,129 @@
+//! The calls that are tested, without their clauses.
+
+use qcow2_base::{Device, Fault, HostCluster, Storage};
+use qcow2_check::{Counters, Finding, Findings, FlagPlace, WrongFlag};
+use qcow2_metadata::Header;
+use qcow2_repair::repair_image;
+use qcow2_summary::is_consistent;
+use qcow2_testing::damages::{FoundCluster, FoundFlag, FoundPlace};
+use std::alloc::Global;
+
+// The header of an image.
+fn header_of<S: Storage>(alloc: Global, image: &mut S) -> Result<Header, Fault> {
+    Header::load(alloc, image, false)
+}
+
+/// All findings of an image, in order, the first hundred of them at most.
+pub(crate) fn findings_of<S: Storage>(
+    alloc: Global,
+    image: &mut S,
+) -> Result<Vec<FoundCluster>, Fault> {
+    let header = header_of(alloc, image)?;
+    let mut found = Vec::new(alloc);
+    read_findings(alloc, image, &header, &mut found)?;
+    Ok(found)
+}
+
+fn read_findings<S: Storage>(
+    alloc: Global,
+    image: &mut S,
+    header: &Header,
+    found: &mut Vec<FoundCluster>,
+) -> Result<(), Fault> {
+    let mut findings = Findings::new(alloc, image, header)?;
+    for _ in 0..100 {
+        let Some(finding) = findings.next(image)? else {
+            return Ok(());
+        };
+        found.push(cluster_of(&finding))?;
+    }
+    Ok(())
+}
+
+fn cluster_of(finding: &Finding) -> FoundCluster {
+    FoundCluster {
+        cluster: finding.cluster.0,
+        counter: finding.counter,
+        uses: finding.uses,
+        shared: finding.shared,
+    }
+}
+
+/// All wrong flags of an image, in order, the first hundred of them at most. Where a read is refused, the
+/// reader is called again.
+pub(crate) fn flags_of<S: Storage>(alloc: Global, image: &mut S) -> Result<Vec<FoundFlag>, Fault> {
+    let header = header_of(alloc, image)?;
+    let mut found = Vec::new(alloc);
+    read_flags(alloc, image, &header, &mut found)?;
+    Ok(found)
+}
+
+fn read_flags<S: Storage>(
+    alloc: Global,
+    image: &mut S,
+    header: &Header,
+    found: &mut Vec<FoundFlag>,
+) -> Result<(), Fault> {
+    let mut flags = Findings::new(alloc, image, header)?.into_flags();
+    for _ in 0..100 {
+        match flags.next(image) {
+            Ok(Some(flag)) => found.push(flag_of(&flag))?,
+            Ok(None) => return Ok(()),
+            Err(Fault::Storage) => {}
+            Err(fault) => return Err(fault),
+        }
+    }
+    Ok(())
+}
+
+fn flag_of(flag: &WrongFlag) -> FoundFlag {
+    let place = match flag.place {
+        FlagPlace::L1Index(index) => FoundPlace::L1Index(index),
+        FlagPlace::Offset(offset) => FoundPlace::Offset(offset.0),
+    };
+    FoundFlag {
+        place,
+        cluster: flag.cluster.0,
+        counter: flag.counter,
+        is_set: flag.is_set,
+    }
+}
+
+/// The counters of these clusters.
+pub(crate) fn counters_of<S: Storage>(
+    alloc: Global,
+    image: &mut S,
+    clusters: &[u64],
+) -> Result<Vec<u64>, Fault> {
+    let header = header_of(alloc, image)?;
+    let mut found = Vec::new(alloc);
+    read_counters(alloc, image, &header, clusters, &mut found)?;
+    Ok(found)
+}
+
+fn read_counters<S: Storage>(
+    alloc: Global,
+    image: &mut S,
+    header: &Header,
+    clusters: &[u64],
+    found: &mut Vec<u64>,
+) -> Result<(), Fault> {
+    let mut counters = Counters::new(alloc, image, header)?;
+    for cluster in clusters {
+        found.push(counters.get(image, HostCluster(*cluster))?)?;
+    }
+    Ok(())
+}
+
+/// Whether an image is consistent.
+pub(crate) fn is_image_consistent<S: Storage>(alloc: Global, image: &mut S) -> Result<bool, Fault> {
+    let header = header_of(alloc, image)?;
+    is_consistent(alloc, image, &header)
+}
+
+/// Repairs an image.
+pub(crate) fn repaired<S: Device>(alloc: Global, image: &mut S) -> Result<(), Fault> {
+    let header = header_of(alloc, image)?;
+    repair_image(alloc, image, header)?;
+    Ok(())
+}

@@ -1,0 +1,162 @@
+//! Images that are repaired, and those that can't be.
+
+use super::{LARGE_COUNTERS, LATE_TABLES, Repair, Unrepairable};
+use crate::sample_image::{
+    AUTOCLEAR, COUNTERS, COUNTERS_4, COUNTERS_8, DATA, DATA_ENTRY, EXTERNAL, L1_TABLE, L2_TABLE,
+    LARGER, NEXT_ENTRY, NEXT_TABLE, NO_DATA, REFTABLE, TABLE, TABLE_ENTRY, TABLE_TWICE,
+    THIRD_ENTRY, TO_6, TO_7, TWICE, TWO_TABLES,
+};
+use crate::{COPIED, Numbers, counted, rows};
+use qcow2_base::{Fault, UncountedPart};
+
+const CONSISTENT: Repair = Repair {
+    name: "",
+    changes: counted! {},
+    left: counted! {},
+    lines: "consistent\n",
+};
+
+// The last counters of the block, to which the image reaches where that was written.
+const BLOCK_END: (u64, u64) = (COUNTERS + 504, 0);
+
+const WRITTEN: Numbers<'static> = counted! { BLOCK_END };
+
+// The data of two entries, with the counter 2 and no flags.
+const SHARED_DATA: Numbers<'static> = counted! { DATA, (NEXT_ENTRY, 0xa00), TWICE, BLOCK_END };
+
+const COUNTS: &[Repair] = rows! {
+    Repair { name: "an image in order", ..CONSISTENT },
+    Repair { name: "an autoclear feature", changes: counted! { AUTOCLEAR }, ..CONSISTENT },
+    Repair { name: "a leaked cluster", changes: counted! { (COUNTERS_8, 0x0000_0007_0000_0000) },
+        left: WRITTEN, ..CONSISTENT },
+    Repair { name: "a leaked reference of data", changes: counted! { TWICE }, left: WRITTEN, ..CONSISTENT },
+    Repair { name: "the greatest counter", changes: LARGE_COUNTERS,
+        left: counted! {
+            (96, 0x0000_0006_0000_0068), (COUNTERS, 1), (COUNTERS + 8, 1), (COUNTERS + 16, 1),
+            (COUNTERS + 24, 1), (COUNTERS + 32, 1), (COUNTERS + 40, 1), BLOCK_END
+        }, ..CONSISTENT },
+    Repair { name: "missing data with the flag", changes: counted! { NO_DATA }, left: WRITTEN,
+        ..CONSISTENT },
+    Repair { name: "missing data, and a late flag", changes: counted! { DATA, NO_DATA }, left: WRITTEN,
+        ..CONSISTENT },
+    Repair { name: "missing clusters of compressed data", changes: counted! { (NEXT_ENTRY, 3 << 61 | 0xc01) },
+        left: counted! { (NEXT_ENTRY, 3 << 61 | 0xc01), TO_7, BLOCK_END }, ..CONSISTENT },
+    Repair { name: "all counters missing", changes: counted! { (COUNTERS, 0), (COUNTERS_4, 0) },
+        left: WRITTEN, ..CONSISTENT },
+    // an empty table may lie anywhere
+    Repair { name: "an empty L1 table past the file's end",
+        changes: counted! { (24, 0), (32, 0), (40, 0x1_0000) },
+        left: counted! {
+            (24, 0), (32, 0), (40, 0x1_0000), (COUNTERS, 0x0001_0000_0000_0001), NO_DATA, BLOCK_END
+        }, ..CONSISTENT },
+    // what no block counts stays
+    Repair { name: "no block", changes: counted! { TABLE, (REFTABLE, 0) },
+        left: counted! { TABLE, (REFTABLE, 0) },
+        lines: "missing 0 4 0 1\nmissing 5 1 0 1\nfalse 0x600 5 0\n\
+            leaked 0 missing 5 shared 0 false 1 late 0\n", ..CONSISTENT },
+    Repair { name: "data past the last counter and a leaked cluster",
+        changes: counted! { (NEXT_ENTRY, 0x2_0000), (COUNTERS_8, 1) },
+        left: counted! { (NEXT_ENTRY, 0x2_0000), BLOCK_END },
+        lines: "missing 256 1 0 1\nleaked 0 missing 1 shared 0 false 0 late 0\n", ..CONSISTENT },
+    Repair { name: "data past the last counter with the flag",
+        changes: counted! { (NEXT_ENTRY, COPIED + (300 << 9)) },
+        left: counted! { (NEXT_ENTRY, COPIED + (300 << 9)) },
+        lines: "missing 300 1 0 1\nfalse 0x800 300 0\nleaked 0 missing 1 shared 0 false 1 late 0\n",
+        ..CONSISTENT },
+};
+
+const FLAGS: &[Repair] = rows! {
+    Repair { name: "the late flag of data", changes: counted! { DATA }, ..CONSISTENT },
+    Repair { name: "the late flag of a table", changes: counted! { TABLE }, ..CONSISTENT },
+    Repair { name: "data of two entries, whose flags are false",
+        changes: counted! { (NEXT_ENTRY, COPIED + 0xa00), TWICE },
+        left: counted! { DATA, (NEXT_ENTRY, 0xa00), TWICE }, ..CONSISTENT },
+    Repair { name: "data of two entries that one counts", changes: counted! { (NEXT_ENTRY, COPIED + 0xa00) },
+        left: SHARED_DATA, ..CONSISTENT },
+    Repair { name: "data of two entries that are counted three times",
+        changes: counted! { DATA, (NEXT_ENTRY, 0xa00), (COUNTERS_4, 0x0001_0003_0000_0000) },
+        left: SHARED_DATA, ..CONSISTENT },
+    Repair { name: "the false flag of a table that two entries name",
+        changes: counted! { LARGER, TWO_TABLES, (NEXT_TABLE, L2_TABLE) },
+        left: counted! {
+            LARGER, TWO_TABLES, TABLE, (NEXT_TABLE, L2_TABLE), DATA, TABLE_TWICE, TWICE, BLOCK_END
+        }, ..CONSISTENT },
+    Repair { name: "late flags of two tables", changes: LATE_TABLES,
+        left: counted! {
+            LARGER, TWO_TABLES, (NEXT_TABLE, COPIED + 0xc00), (0xc00 + 504, COPIED + 0xe00), TO_7
+        }, ..CONSISTENT },
+    Repair { name: "the late flag of data in another file", changes: counted! { EXTERNAL, DATA },
+        left: counted! { EXTERNAL, NO_DATA, BLOCK_END }, ..CONSISTENT },
+    // tables in the last cluster of a file that ends within it
+    Repair { name: "an L2 table that the file's end cuts",
+        changes: counted! { LARGER, TWO_TABLES, (NEXT_TABLE, COPIED + 0xc00), (0xc00, 0) },
+        left: counted! { LARGER, TWO_TABLES, (NEXT_TABLE, COPIED + 0xc00), (0xc00, 0), TO_6 },
+        ..CONSISTENT },
+};
+
+// Counters of one bit, of which the first six are 1.
+const NARROW: (u64, u64) = (96, 0x0000_0000_0000_0068);
+
+const NARROW_COUNTERS: (u64, u64) = (COUNTERS, 0x3f00_0000_0000_0000);
+
+// 400 unknown bytes in the header, and the backing file FI, whose name is bytes 1 and 2 of the image: with an
+// autoclear feature the text is to be placed anew, and has no room.
+const NO_ROOM: Numbers<'static> = counted! {
+    (8, 1), (16, 0x0000_0002_0000_0009), AUTOCLEAR, (96, 0x0000_0004_0000_01f8)
+};
+
+const SNAPSHOTS: Fault = Fault::Uncounted(UncountedPart::Snapshots);
+
+const UNREPAIRABLE: &[Unrepairable] = rows! { Unrepairable:
+    { name: "snapshots", changes: counted! { (60, 1 << 32) }, fault: SNAPSHOTS },
+    { name: "a bad refcount table entry", changes: counted! { (REFTABLE + 8, 1) },
+        fault: Fault::EntryReserved },
+    { name: "data in the L1 table", changes: counted! { AUTOCLEAR, (NEXT_ENTRY, L1_TABLE) },
+        fault: Fault::Overlap },
+    { name: "data in an L2 table", changes: counted! { (NEXT_ENTRY, L2_TABLE), (COUNTERS_8, 1) },
+        fault: Fault::Overlap },
+    { name: "data in the refcount table", changes: counted! { AUTOCLEAR, (DATA_ENTRY, REFTABLE) },
+        fault: Fault::Overlap },
+    { name: "data in the refcount table, counted so",
+        changes: counted! {
+            (DATA_ENTRY, REFTABLE), (COUNTERS, 0x0001_0001_0001_0002), (COUNTERS_4, 1 << 48)
+        }, fault: Fault::Overlap },
+    { name: "a block that two entries name", changes: counted! { (REFTABLE + 8, 0x800) },
+        fault: Fault::Overlap },
+    { name: "two uses that a counter of one bit can't hold",
+        changes: counted! { AUTOCLEAR, NARROW, NARROW_COUNTERS, (COUNTERS_4, 0), (NEXT_ENTRY, 0xa00) },
+        fault: Fault::CounterRange },
+    { name: "the cluster that comes first decides",
+        changes: counted! {
+            NARROW, NARROW_COUNTERS, (COUNTERS_4, 0), (NEXT_ENTRY, REFTABLE), (THIRD_ENTRY, 0xa00)
+        }, fault: Fault::Overlap },
+    { name: "a header without room", changes: NO_ROOM, fault: Fault::HeaderTooLong },
+    // L1 tables that are too short for their disks, beside what else is refused
+    { name: "a cluster past the L1 table", changes: counted! { AUTOCLEAR, (24, 32769) },
+        fault: Fault::L1Short },
+    { name: "a table that no entry names any more",
+        changes: counted! { LARGER, (0xc00 + 504, COPIED + 0xe00), TO_7 }, fault: Fault::L1Short },
+    { name: "a short table, and snapshots", changes: counted! { (24, 32769), (60, 1 << 32) },
+        fault: SNAPSHOTS },
+    { name: "a short table, and a bad L1 entry", changes: counted! { (24, 32769), (TABLE_ENTRY, 1) },
+        fault: Fault::L1Short },
+    { name: "a short table, and an L2 table past the file's end",
+        changes: counted! { (24, 32769), (TABLE_ENTRY, COPIED + 0x1_0000) }, fault: Fault::L1Short },
+    { name: "a short table, and data in it", changes: counted! { (24, 32769), (NEXT_ENTRY, L1_TABLE) },
+        fault: Fault::L1Short },
+};
+
+/// Counters that a repair makes right.
+pub(super) fn counts() -> &'static [Repair] {
+    COUNTS
+}
+
+/// Flags that a repair makes right.
+pub(super) fn flags() -> &'static [Repair] {
+    FLAGS
+}
+
+/// Images that can't be repaired.
+pub(super) fn unrepairable() -> &'static [Unrepairable] {
+    UNREPAIRABLE
+}
