@@ -1,12 +1,11 @@
 //! What becomes of the clusters that edits of a disk give references, or take them from.
 
-use crate::small_image::{
-    BLOCK, COPIED, Numbers, OTHER_BLOCK, OTHER_TABLE, discard, header_of, map, small_image,
-};
+use crate::small_image::{OTHER_BLOCK, OTHER_TABLE, discard, header_of, map, small_image};
 use qcow2_apply::{ChangedClusters, GuestEdit, KeptCluster, Plan, apply_edits};
 use qcow2_base::{ClusterCount, Device, Fault, GuestOffset, HostCluster, MemStorage};
 use qcow2_metadata::{ClustersToFreeEntry, Header};
-use qcow2_testing::{each, recorded, same, same_image};
+use qcow2_testing::sample_image::BLOCK;
+use qcow2_testing::{COPIED, Numbers, each, recorded, same, same_image};
 use std::alloc::Global;
 use std::test::Fail;
 

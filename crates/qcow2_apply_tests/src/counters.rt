@@ -1,12 +1,13 @@
 //! Counters in an image that follow what clusters gained and lost.
 
-use crate::small_image::{BLOCK, Numbers, OTHER_BLOCK, small_image};
+use crate::small_image::{OTHER_BLOCK, small_image};
 use qcow2_apply::{Changes, CounterTables, follow_changes};
 use qcow2_base::{ClusterCount, Device, Fault, HostCluster};
 use qcow2_check::Counters;
 use qcow2_edits::Outcome;
 use qcow2_metadata::{ClustersToFreeEntry, Header, RefBlock};
-use qcow2_testing::{StorageCall, each, recorded, rows, same, same_image};
+use qcow2_testing::sample_image::BLOCK;
+use qcow2_testing::{Numbers, StorageCall, each, recorded, rows, same, same_image};
 use std::alloc::Global;
 use std::test::Fail;
 

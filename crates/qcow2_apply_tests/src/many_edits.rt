@@ -1,11 +1,10 @@
 //! Many edits over many L2 tables. Each is looked at for its own table alone: for all tables that would be
 //! 6553600000 times.
 
-use crate::small_image::COPIED;
 use crate::tables::edit;
 use qcow2_apply::GuestEdit;
 use qcow2_base::{Fault, GuestOffset, MemStorage};
-use qcow2_testing::{image_with, put, same, same_image};
+use qcow2_testing::{COPIED, VERSION_3, image_with, put, same, same_image};
 use std::alloc::{AllocError, Global};
 use std::test::Fail;
 
@@ -20,7 +19,7 @@ const EDITS: u64 = 100000;
 // The image, in which the first two entries of each table are data.
 fn many_tables(alloc: Global) -> Result<MemStorage, Fault> {
     let header = [
-        (0, 0x5146_49fb_0000_0003),
+        (0, VERSION_3),
         (16, 9),
         (24, TABLES * 64 * 512),
         (32, TABLES),

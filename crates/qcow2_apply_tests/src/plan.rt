@@ -1,12 +1,13 @@
 //! What edits of a disk are planned to do.
 
-use crate::small_image::{
-    BLOCK, Numbers, OTHER_TABLE, discard, header_of, kept, map, small_image, zeros,
-};
+use crate::small_image::{OTHER_TABLE, discard, header_of, kept, map, small_image, zeros};
 use qcow2_apply::{Changes, GuestEdit, Plan};
 use qcow2_base::{ClusterCount, Fault, GuestOffset, HostCluster, MemStorage};
 use qcow2_metadata::{ClustersToFreeEntry, Header, Table};
-use qcow2_testing::{FailingStorage, StorageCall, all_same, each, recorded, same, same_image};
+use qcow2_testing::sample_image::BLOCK;
+use qcow2_testing::{
+    FailingStorage, Numbers, StorageCall, all_same, each, recorded, same, same_image,
+};
 use std::alloc::Global;
 use std::test::Fail;
 

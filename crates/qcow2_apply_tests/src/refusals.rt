@@ -1,13 +1,11 @@
 //! Edits of a disk that are refused: by which fault, where several could be it, and before a byte changes.
 
-use crate::small_image::{
-    BLOCK, COPIED, L1_TABLE, L2_TABLE, Numbers, OTHER_TABLE, REFTABLE, apply, discard, header_of,
-    kept, map, small_image, zeros,
-};
+use crate::small_image::{OTHER_TABLE, apply, discard, header_of, kept, map, small_image, zeros};
 use qcow2_apply::{GuestEdit, Plan};
 use qcow2_base::{Fault, GuestOffset, HostCluster, MemStorage};
 use qcow2_metadata::Header;
-use qcow2_testing::{each, printed, put_all, rows, same, same_image};
+use qcow2_testing::sample_image::{BLOCK, L1_TABLE, L2_TABLE, REFTABLE, TABLE_TWICE};
+use qcow2_testing::{COPIED, Numbers, VERSION_2, each, printed, put_all, rows, same, same_image};
 use std::alloc::Global;
 use std::test::Fail;
 
@@ -24,7 +22,7 @@ struct Refused<'a> {
 const AUTOCLEAR: Numbers<'static> = &[(88, 2)];
 
 // Version 2, and an external data file.
-const OLD: (u64, u64) = (0, 0x5146_49fb_0000_0002);
+const OLD: (u64, u64) = (0, VERSION_2);
 
 const EXTERNAL: (u64, u64) = (72, 4);
 
@@ -52,10 +50,8 @@ const BAD_ENTRY: (u64, u64) = (L2_TABLE, 2);
 
 const BAD_OTHER_ENTRY: (u64, u64) = (OTHER_TABLE + 504, 2);
 
-// The counters of clusters 4 to 7, where the table in cluster 4 has two references, and none.
-const TWO_REFERENCES: (u64, u64) = (BLOCK + 8, 0x0002_0001_0001_0001);
-
-const NO_REFERENCE: (u64, u64) = (BLOCK + 8, 0x0000_0001_0001_0001);
+// The counters of clusters 0 to 3, where the table in cluster 2 has no reference.
+const NO_REFERENCE: (u64, u64) = (BLOCK, 0x0001_0001_0000_0001);
 
 // A disk of 256 clusters, of which the L1 table has the first 128.
 const LONG_DISK: (u64, u64) = (24, 131072);
@@ -128,7 +124,7 @@ const BY_TABLE: &[Refused<'static>] = rows! { Refused:
     { name: "a discard without a table", before: &[NO_TABLE], edits: &[discard!(0, 64)], fault: None },
     { name: "a table that has another reference, by its L1 entry", before: &[NOT_COPIED],
         edits: &[discard!(3, 1)], fault: Some(Fault::Shared(0)) },
-    { name: "so by its counter", before: &[TWO_REFERENCES], edits: &[discard!(64, 1), discard!(3, 1)],
+    { name: "so by its counter", before: &[TABLE_TWICE], edits: &[discard!(64, 1), discard!(3, 1)],
         fault: Some(Fault::Shared(1)) },
     { name: "a table whose counter is 0", before: &[NO_REFERENCE], edits: &[discard!(3, 1)],
         fault: Some(Fault::Shared(0)) },

@@ -2,14 +2,17 @@
 //! header autoclear features change alone.
 
 use crate::small_image::{
-    BLOCK, COPIED, L2_TABLE, Numbers, OTHER_BLOCK, OTHER_TABLE, apply, discard, header_of, kept,
-    map, small_image, zeros,
+    OTHER_BLOCK, OTHER_TABLE, apply, discard, header_of, kept, map, small_image, zeros,
 };
 use qcow2_apply::GuestEdit;
 use qcow2_base::{Fault, GuestOffset, HostCluster, MemStorage, Storage};
 use qcow2_check::{Finding, Findings};
 use qcow2_metadata::Header;
-use qcow2_testing::{StorageCall, each, printed, put_all, recorded, rows, same, same_image};
+use qcow2_testing::sample_image::{BLOCK, L2_TABLE};
+use qcow2_testing::{
+    COPIED, Numbers, StorageCall, VERSION_2, each, printed, put_all, recorded, rows, same,
+    same_image,
+};
 use std::alloc::{AllocError, Global};
 use std::test::Fail;
 
@@ -206,7 +209,7 @@ const FEATURED: &[Featured<'static>] = rows! { Featured:
     { name: "compatible ones, and an extension that is not known",
         header: &[(80, u64::MAX), (88, u64::MAX), (104, 7 << 32 | 8), (112, 7)] },
     { name: "what lies after the last extension", header: &[(88, 3), (112, 7), (504, u64::MAX)] },
-    { name: "version 2", header: &[(0, 0x5146_49fb_0000_0002), (88, 3)] },
+    { name: "version 2", header: &[(0, VERSION_2), (88, 3)] },
 };
 
 fn check_featured(alloc: Global, row: Featured<'_>) -> Result<(), Fail> {

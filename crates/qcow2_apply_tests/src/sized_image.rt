@@ -1,9 +1,8 @@
 //! Images of several cluster sizes and widths of counters, by what six guest clusters and six host clusters
 //! of them are.
 
-use crate::small_image::COPIED;
 use qcow2_base::{Fault, MemStorage};
-use qcow2_testing::{image_with, put, put_bytes, rows};
+use qcow2_testing::{COPIED, VERSION_3, image_with, put, put_bytes, rows};
 use std::alloc::Global;
 
 /// A cluster size and a width of counters: how many bytes a cluster has, how many entries an L2 table, and
@@ -183,7 +182,7 @@ fn empty_image(alloc: Global, shape: Shape<'_>) -> Result<MemStorage, Fault> {
     let place = |cluster: u64| -> u64 { size.wrapping_mul(cluster) };
     let disk = shape.entries.wrapping_mul(2).wrapping_mul(size);
     let numbers = [
-        (0, 0x5146_49fb_0000_0003),
+        (0, VERSION_3),
         (16, shape.cluster_bits as u64),
         (24, disk),
         (32, 2),

@@ -1,11 +1,12 @@
 //! L2 tables of an image that edits of its disk change.
 
-use crate::small_image::{COPIED, L1_TABLE, L2_TABLE, Numbers, OTHER_TABLE, small_image};
+use crate::small_image::{OTHER_TABLE, small_image};
 use qcow2_apply::{EditsByTable, GuestEdit, edit_tables, first_unfit};
 use qcow2_base::{Device, Fault, GuestOffset, HostCluster};
 use qcow2_check::load_l1_table;
 use qcow2_metadata::{Header, L2Table};
-use qcow2_testing::{StorageCall, each, recorded, rows, same, same_image};
+use qcow2_testing::sample_image::{L1_TABLE, L2_TABLE};
+use qcow2_testing::{COPIED, Numbers, StorageCall, each, recorded, rows, same, same_image};
 use std::alloc::Global;
 use std::test::Fail;
 
