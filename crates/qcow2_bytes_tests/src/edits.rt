@@ -1,15 +1,12 @@
 //! Edits in the bytes of an L2 table, and what refuses them.
 
 use crate::calls::edit_l2_table;
-use crate::entries::{COMPRESSED, COPIED, fields};
+use crate::entries::fields;
 use qcow2_base::Fault;
 use qcow2_bytes::{BadEntry, EditCounts, EditFields, EditRefusal, HeaderFields, HostClusters};
-use qcow2_testing::{each, image_with, rows, same, same_bytes};
+use qcow2_testing::{COMPRESSED, COPIED, Numbers, each, image_with, rows, same, same_bytes};
 use std::alloc::Global;
 use std::test::Fail;
-
-// Numbers of a table, and where each begins in its bytes.
-type Numbers = &'static [(u64, u64)];
 
 // Entries 3, 4 and the last of a table of 64.
 const THIRD: u64 = 24;
@@ -24,11 +21,11 @@ const LAST: u64 = 504;
 struct Edited {
     name: &'static str,
     version: u32,
-    before: Numbers,
+    before: Numbers<'static>,
     edits: &'static [EditFields],
     freed: &'static [HostClusters],
     gained: &'static [u64],
-    after: Numbers,
+    after: Numbers<'static>,
 }
 
 // Edits, each by its kind, the index of its entry, and an offset.
@@ -128,7 +125,7 @@ fn check_list<T: Copy + PartialEq + std::fmt::Debug + Drop>(
     Ok(())
 }
 
-fn table_bytes(alloc: Global, len: usize, numbers: Numbers) -> Result<Vec<u8>, Fail> {
+fn table_bytes(alloc: Global, len: usize, numbers: Numbers<'static>) -> Result<Vec<u8>, Fail> {
     let image = image_with(alloc, len, numbers)?;
     let mut bytes = Vec::with_capacity(alloc, len)?;
     bytes.extend_from_slice(image.bytes())?;
@@ -143,7 +140,7 @@ struct Refused {
     cluster_bits: u32,
     features: u64,
     len: usize,
-    before: Numbers,
+    before: Numbers<'static>,
     edits: &'static [EditFields],
     places: (usize, usize),
     refusal: EditRefusal,

@@ -3,7 +3,7 @@
 use crate::calls::{first_bad_l2_entry, l1_entry, l2_entry};
 use qcow2_base::{Fault, MemStorage};
 use qcow2_bytes::{BadEntry, EntryMapping, HeaderFields, L2Pointer, NameRange};
-use qcow2_testing::{each, image_with, part_of, rows, same};
+use qcow2_testing::{COMPRESSED, COPIED, each, image_with, part_of, rows, same};
 use std::alloc::Global;
 use std::test::Fail;
 
@@ -34,10 +34,6 @@ pub(crate) fn fields(cluster_bits: u32, incompatible_features: u64) -> HeaderFie
         data_file: NONE,
     }
 }
-
-pub(crate) const COPIED: u64 = 1 << 63;
-
-pub(crate) const COMPRESSED: u64 = 1 << 62;
 
 // A number in an L1 table, and what it says as the offset and the flag, or why it is refused.
 #[derive(Clone, Copy, Debug)]

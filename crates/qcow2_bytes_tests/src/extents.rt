@@ -2,35 +2,30 @@
 //! offset on, and those before a fault.
 
 use crate::calls::image_extents;
-use crate::entries::COPIED;
 use qcow2_base::{Fault, MemStorage};
 use qcow2_bytes::{CutShort, ExtentFields};
-use qcow2_testing::{each, image_with, part_of, put_all, rows, same};
+use qcow2_testing::sample_image::{
+    LARGER, LAST_ENTRY, NEXT_ENTRY, NEXT_TABLE, THIRD_ENTRY, TWO_TABLES, sample_image,
+};
+use qcow2_testing::{
+    COMPRESSED, COPIED, Numbers, VERSION_3, each, image_with, part_of, put_all, rows, same,
+};
 use std::alloc::Global;
 use std::test::Fail;
 
-// Numbers of eight bytes at places.
-type Numbers = &'static [(u64, u64)];
-
-// A disk of 64 KiB in clusters of 512 bytes: the header, an L1 table of two entries, their L2 tables, of 64
-// entries each.
-const IMAGE: Numbers = &[
-    (0, 0x5146_49fb_0000_0003),
-    (16, 9),
-    (24, 0x1_0000),
-    (32, 2),
-    (40, 0x200),
-    (96, 0x4_0000_0068),
-    (0x200, COPIED + 0x400),
-    (0x208, 0x600),
-    (0x418, COPIED + 0xa00),
-    (0x420, 0xc00),
-    (0x428, 1),
+// The sample image with a disk of two L2 tables, of 64 entries each, the second of which is cluster 3.
+const IMAGE: Numbers<'static> = &[
+    LARGER,
+    TWO_TABLES,
+    (NEXT_TABLE, 0x600),
+    (NEXT_ENTRY, 0xc00),
+    (THIRD_ENTRY, 1),
     (0x430, 0xe01),
-    (0x438, 0x4000_0000_0000_0801),
-    (0x440, 0x4000_0000_0000_0901),
-    (0x5f8, 0x1000),
+    (0x438, COMPRESSED + 0x801),
+    (0x440, COMPRESSED + 0x901),
+    (LAST_ENTRY, 0x1000),
     (0x600, 0x1200),
+    (0x7f8, 0),
 ];
 
 // The kind, the guest offset, the length and the offset of an extent.
@@ -52,7 +47,7 @@ const PARTS: [Part; 8] = [
 // how many of the whole disk's come, and which others, and the fault.
 #[derive(Clone, Copy, Debug)]
 struct Row {
-    changes: Numbers,
+    changes: Numbers<'static>,
     len: usize,
     from: u64,
     room: usize,
@@ -141,8 +136,8 @@ fn expected(alloc: Global, row: &Row) -> Result<Vec<ExtentFields>, Fail> {
     Ok(list)
 }
 
-fn image(alloc: Global, changes: Numbers) -> Result<MemStorage, Fault> {
-    let mut image = image_with(alloc, 0x800, IMAGE)?;
+fn image(alloc: Global, changes: Numbers<'static>) -> Result<MemStorage, Fault> {
+    let mut image = sample_image(alloc, 9, IMAGE)?;
     put_all(&mut image, changes)?;
     Ok(image)
 }
@@ -176,14 +171,14 @@ fn extents_before_a_fault_are_put(rt: HostRuntime) -> Result<(), Fail> {
 struct Large {
     name: &'static str,
     len: usize,
-    numbers: Numbers,
+    numbers: Numbers<'static>,
     from: u64,
     parts: &'static [Part],
 }
 
 // Clusters of 64 KiB, of which each L2 table has 8192. The first and the last of 2048 L1 entries name one.
-const TERABYTE: Numbers = &[
-    (0, 0x5146_49fb_0000_0003),
+const TERABYTE: Numbers<'static> = &[
+    (0, VERSION_3),
     (16, 16),
     (24, 0x100_0000_0000),
     (32, 2048),
@@ -197,8 +192,8 @@ const TERABYTE: Numbers = &[
 ];
 
 // Clusters of 2 MiB, of which an L2 table has 2^18.
-const LARGE_CLUSTERS: Numbers = &[
-    (0, 0x5146_49fb_0000_0003),
+const LARGE_CLUSTERS: Numbers<'static> = &[
+    (0, VERSION_3),
     (16, 21),
     (24, 1 << 60),
     (32, 1),

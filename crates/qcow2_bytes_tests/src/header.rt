@@ -4,27 +4,24 @@ use crate::calls::{header_bytes, read_header};
 use crate::entries::NONE;
 use qcow2_base::{Fault, MemStorage};
 use qcow2_bytes::{HeaderFields, NameRange};
-use qcow2_testing::{all_same, each, image_with, part_of, put_all, put_bytes, same};
+use qcow2_testing::{Numbers, all_same, each, image_with, part_of, put_all, put_bytes, same};
 use std::alloc::Global;
 use std::test::Fail;
-
-// Numbers of eight bytes at places.
-type Numbers = &'static [(u64, u64)];
 
 const MAGIC: u64 = 0x5146_49fb_0000_0000;
 
 // The least header: version 3, clusters of 512 bytes, refcounts of 16 bits, no extensions.
-const LEAST: Numbers = &[(0, MAGIC + 3), (16, 9), (96, 0x4_0000_0068)];
+const LEAST: Numbers<'static> = &[(0, MAGIC + 3), (16, 9), (96, 0x4_0000_0068)];
 
 // The least header with other numbers, and 600 bytes with it.
-fn least_with(alloc: Global, numbers: Numbers) -> Result<MemStorage, Fault> {
+fn least_with(alloc: Global, numbers: Numbers<'static>) -> Result<MemStorage, Fault> {
     let mut image = image_with(alloc, 600, LEAST)?;
     put_all(&mut image, numbers)?;
     Ok(image)
 }
 
 // How many bytes are given, other numbers in them, and the first cluster's length, or the fault.
-type Length = (usize, Numbers, Result<usize, Fault>);
+type Length = (usize, Numbers<'static>, Result<usize, Fault>);
 
 const LENGTHS: [Length; 12] = [
     (104, &[], Ok(512)),
@@ -54,7 +51,7 @@ fn the_first_bytes_say_how_long_the_cluster_is(rt: HostRuntime) -> Result<(), Fa
 }
 
 // How many bytes are given, other numbers in them, and why they are refused.
-type Refused = (usize, Numbers, Fault);
+type Refused = (usize, Numbers<'static>, Fault);
 
 const REFUSED: [Refused; 8] = [
     (511, &[], Fault::WrongLength),
@@ -89,7 +86,7 @@ fn a_header_is_refused_by_its_first_fault(rt: HostRuntime) -> Result<(), Fail> {
 }
 
 // Each field has a number of its own.
-const FILLED: Numbers = &[
+const FILLED: Numbers<'static> = &[
     (8, 508),
     (16, (4 << 32) + 9),
     (24, 0x0102_0304_0506_0708),

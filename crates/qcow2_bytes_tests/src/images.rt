@@ -1,29 +1,21 @@
 //! What a whole image in memory says.
 
 use crate::calls::image_lookup;
-use crate::entries::COPIED;
 use qcow2_base::{Fault, MemStorage};
-use qcow2_testing::{each, image_with, part_of, rows, same};
+use qcow2_testing::sample_image::{L2_TABLE, LAST_ENTRY, sample_image};
+use qcow2_testing::{COMPRESSED, COPIED, each, part_of, rows, same};
 use std::alloc::Global;
 use std::test::Fail;
 
-// Clusters of 512 bytes: the header, an L1 table of one entry, its L2 table, and one of data.
+// The sample image with three entries more: data, zeros, and compressed data in the last one.
 fn image(alloc: Global) -> Result<MemStorage, Fault> {
-    image_with(
-        alloc,
-        0x800,
-        &[
-            (0, 0x5146_49fb_0000_0003),
-            (16, 9),
-            (32, 1),
-            (40, 0x200),
-            (96, 0x4_0000_0068),
-            (0x200, COPIED + 0x400),
-            (0x400, COPIED + 0x600),
-            (0x408, 1),
-            (0x5f8, 0x4000_0000_0000_0601),
-        ],
-    )
+    let entries = [
+        (L2_TABLE, COPIED + 0x600),
+        (L2_TABLE + 8, 1),
+        (LAST_ENTRY, COMPRESSED + 0x601),
+        (0x7f8, 0),
+    ];
+    sample_image(alloc, 9, &entries)
 }
 
 // How many bytes of the image are given, a guest offset, and what its cluster reads as: the kind, the flag,

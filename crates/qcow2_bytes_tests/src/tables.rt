@@ -1,10 +1,10 @@
 //! What the entries in bytes of an L2 table read as, joined to extents.
 
 use crate::calls::l2_extents;
-use crate::entries::{COMPRESSED, COPIED, fields};
+use crate::entries::fields;
 use qcow2_base::Fault;
 use qcow2_bytes::ExtentFields;
-use qcow2_testing::{each, part_of, rows, same};
+use qcow2_testing::{COMPRESSED, COPIED, each, part_of, rows, same};
 use std::alloc::{AllocError, Global};
 use std::fmt::Debug;
 use std::test::Fail;

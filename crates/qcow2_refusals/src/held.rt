@@ -6,7 +6,8 @@ use qcow2_calls::{header_of, load_block, load_header, load_table, new_header};
 use qcow2_metadata::{
     FeatureType, Header, L1Table, L2Table, RefBlock, RefTable, Table, TableEntry,
 };
-use qcow2_testing::rows;
+use qcow2_testing::sample_image::{DATA_ENTRY, L1_TABLE, L2_TABLE};
+use qcow2_testing::{COPIED, VERSION_3, rows};
 use std::alloc::Global;
 
 /// The cluster that each table begins with.
@@ -21,13 +22,14 @@ pub(crate) const MOST_NUMBERS: usize = 1 << 17;
 /// More bytes than any call reports, so that no write of them asks for memory.
 const MOST_REPORTED: usize = 4096;
 
-/// A disk of 64 clusters of 512 bytes, of which guest cluster 3 is the data in host cluster 5.
+/// The sample image of the tests, and a cluster of zeros: a disk of 64 clusters of 512 bytes, of which guest
+/// cluster 3 is the data in host cluster 5.
 pub(crate) const DISK: Image = Image {
     len: 2048,
     zeros: (0, 2048),
     numbers: rows! {
-        (0, 0x5146_49fb_0000_0003), (16, 9), (24, 0x8000), (32, 1), (40, 0x200), (96, 0x4_0000_0068),
-        (512, 0x8000_0000_0000_0400), (1048, 0x8000_0000_0000_0a00),
+        (0, VERSION_3), (16, 9), (24, 0x8000), (32, 1), (40, 0x200), (96, 0x4_0000_0068),
+        (L1_TABLE, COPIED + L2_TABLE), (DATA_ENTRY, COPIED + 0xa00),
     },
 };
 

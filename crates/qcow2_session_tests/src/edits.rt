@@ -1,6 +1,5 @@
 //! Lists of edits of an L2 table: what all of them leave together, and which lists are refused.
 
-use crate::sample_image::COPIED;
 use crate::tables::{
     DATA_5, Entries, GONE, KEEP, PAST, References, TO_0, TO_1, TO_2, TO_5, TO_6, ZERO,
     check_outcome, check_table, map, outcome, table_with,
@@ -9,7 +8,7 @@ use qcow2_base::{ClusterCount, Fault, HostCluster};
 use qcow2_metadata::ClustersToFreeEntry;
 use qcow2_session::{Edit, Outcome};
 use qcow2_session_calls::{edit_table, edits_fit};
-use qcow2_testing::{each, rows, same};
+use qcow2_testing::{COPIED, each, rows, same};
 use std::alloc::{AllocError, Global};
 use std::test::Fail;
 

@@ -1,13 +1,13 @@
 //! What disks read as, as extents: kinds of content beside each other, at the borders of clusters, of tables
 //! and of the disk, and by which fault a damaged table ends them.
 
-use crate::sample_image::{COPIED, Numbers, check_sample, sample_image};
 use Content::{Absent, Compressed, Zeros};
 use qcow2_base::{Fault, GuestOffset, HostOffset, Storage};
 use qcow2_calls::load_header;
 use qcow2_metadata::Header;
 use qcow2_session::{Content, Extent, Extents};
-use qcow2_testing::{FailingStorage, each, rows, same};
+use qcow2_testing::sample_image::{check_sample, sample_image};
+use qcow2_testing::{COPIED, FailingStorage, Numbers, each, rows, same};
 use std::alloc::Global;
 use std::fmt::Debug;
 use std::test::Fail;

@@ -27,8 +27,6 @@ mod plain_storage;
 #[cfg(test)]
 mod refused_calls;
 #[cfg(test)]
-mod sample_image;
-#[cfg(test)]
 mod settled;
 #[cfg(test)]
 mod steps;

@@ -1,12 +1,14 @@
 //! What guest offsets read as, by each kind of entry, and by which fault a damaged image is refused.
 
-use crate::sample_image::{COPIED, Numbers, sample_image};
 use Answer::{Backing, Compressed, Data, Refused, Zeros};
 use qcow2_base::{Fault, GuestOffset, HostCluster, MemStorage};
 use qcow2_calls::{load_header, load_table};
 use qcow2_metadata::L2Mapping;
 use qcow2_session_calls::{lookup, lookup_image};
-use qcow2_testing::{FailingStorage, StorageCall, each, part_of, rows, same, same_bytes};
+use qcow2_testing::sample_image::sample_image;
+use qcow2_testing::{
+    COPIED, FailingStorage, Numbers, StorageCall, each, part_of, rows, same, same_bytes,
+};
 use std::alloc::Global;
 use std::fmt::Debug;
 use std::test::Fail;

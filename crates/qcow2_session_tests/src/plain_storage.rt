@@ -6,7 +6,6 @@ ghost use Rattle.qcow2_base.specs.Format.{max_file_length};
 ghost use Rattle.qcow2_base.specs.Storage.Memory.{memory_bytes, memory_state};
 ghost use Rattle.qcow2_base.specs.Storage.{ReadsBytes, WritesBytes};
 
-use crate::sample_image::{counted, sample_image};
 use qcow2_base::{Fault, GuestOffset, HostCluster, HostOffset, MemStorage, Storage, StorageFault};
 use qcow2_calls::{
     load_block, load_header, load_table, reload_block, reload_l2_table, write_block,
@@ -20,7 +19,8 @@ use qcow2_session::commands::{
 };
 use qcow2_session::{Edit, Step};
 use qcow2_session_calls::{edit_image, list_l2_table, lookup, lookup_image, step_image};
-use qcow2_testing::{same, same_bytes};
+use qcow2_testing::sample_image::sample_image;
+use qcow2_testing::{counted, same, same_bytes};
 use std::alloc::Global;
 use std::test::Fail;
 

@@ -1,12 +1,9 @@
 //! Calls and commands of which each call of the storage is refused in turn, and commands whose output is full
 //! after each byte: what they return, and what they leave.
 
-use crate::commands::check::{ALL_KINDS, ALL_LINES, LATE_LINES, LATE_TABLES};
 use crate::commands::check_json::{ALL_OBJECT, LATE_OBJECT};
-use crate::commands::in_memory::{EXTENTS, JSON, run_command};
-use crate::commands::whole_images::INFO;
+use crate::commands::in_memory::run_command;
 use crate::failing_output::{FailingOutput, Failure};
-use crate::sample_image::{COPIED, Numbers, counted, sample_image};
 use crate::tables::map;
 use Call::{EditImage, Line, LoadHeader, Locate, LookUp, LookUpImage, StepImage};
 use qcow2_base::{Device, Fault, GuestOffset, HostCluster, MemStorage, Storage};
@@ -15,8 +12,11 @@ use qcow2_metadata::L1Table;
 use qcow2_session::commands::locate_fault;
 use qcow2_session::{Edit, Step};
 use qcow2_session_calls::{edit_image, lookup, lookup_image, step_image};
+use qcow2_testing::damages::{ALL_KINDS, ALL_LINES, LATE_LINES, LATE_TABLES};
+use qcow2_testing::sample_image::{EXTENTS, INFO, JSON, sample_image};
 use qcow2_testing::{
-    FailingStorage, StorageCall, each, part_of, put_bytes, row_error, rows, same, same_bytes,
+    COPIED, FailingStorage, Numbers, StorageCall, counted, each, part_of, put_bytes, row_error,
+    rows, same, same_bytes,
 };
 use std::alloc::Global;
 use std::io::Write;

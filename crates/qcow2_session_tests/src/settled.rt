@@ -1,7 +1,6 @@
 //! Counters of a block that follow what edits of a table did to references.
 
 use crate::blocks::{Counters, block_of, check_counters};
-use crate::sample_image::sample_image;
 use crate::tables::{
     DATA_5, Entries, GONE, KEEP, PAST, References, TO_5, TO_6, check_outcome, check_table, outcome,
     table_with,
@@ -12,6 +11,7 @@ use qcow2_calls::{header_of, load_block, write_block};
 use qcow2_metadata::{Header, L2Table, RefBlock};
 use qcow2_session::{Edit, Outcome};
 use qcow2_session_calls::{edit_image, edit_settled, settle};
+use qcow2_testing::sample_image::sample_image;
 use qcow2_testing::{each, put_bytes, rows, same, same_bytes};
 use std::alloc::{AllocError, Global};
 use std::test::Fail;

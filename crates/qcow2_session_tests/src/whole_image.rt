@@ -1,14 +1,14 @@
 //! A whole image, of two L2 tables that share no byte: what edits of one of them leave of all references, and
 //! of the other's mappings.
 
-use crate::sample_image::{COPIED, Numbers, sample_image};
 use crate::tables::map;
 use qcow2_base::{Fault, GuestOffset, HostCluster, MemStorage};
 use qcow2_calls::header_of;
 use qcow2_metadata::L2Mapping;
 use qcow2_session::{Edit, Outcome};
 use qcow2_session_calls::{edit_image, lookup_image};
-use qcow2_testing::{each, part_of, row_error, rows, same};
+use qcow2_testing::sample_image::sample_image;
+use qcow2_testing::{COPIED, Numbers, each, part_of, row_error, rows, same};
 use std::alloc::Global;
 use std::test::Fail;
 

@@ -7,7 +7,7 @@ use crate::runs::Call::{
 };
 use crate::runs::HeaderOf::{Disk, Named, New};
 use crate::runs::{EMPTY, Image, Numbers, Run};
-use qcow2_testing::rows;
+use qcow2_testing::{VERSION_3, rows};
 
 /// The runs of this file.
 pub(crate) fn runs() -> &'static [Run] {
@@ -35,10 +35,10 @@ const RUNS: &[Run] = rows! {
         after: &[(48, 0), (52, 0)], ..RUN },
 };
 
-const SMALL: Numbers = rows! { (0, 0x5146_49fb_0000_0003), (16, 9), (96, 0x4_0000_0068) };
+const SMALL: Numbers = rows! { (0, VERSION_3), (16, 9), (96, 0x4_0000_0068) };
 
 // A header of 112 bytes, and the name backing.1 after it.
 const NAMED: Numbers = rows! {
-    (0, 0x5146_49fb_0000_0003), (8, 0x70), (16, 0x9_0000_0009), (96, 0x4_0000_0068),
+    (0, VERSION_3), (8, 0x70), (16, 0x9_0000_0009), (96, 0x4_0000_0068),
     (112, 0x6261_636b_696e_672e), (113, 0x6163_6b69_6e67_2e31),
 };

@@ -7,7 +7,10 @@ use crate::runs::Call::{
 };
 use crate::runs::HeaderOf::{Disk, New, OfImage};
 use crate::runs::{EMPTY, Image, Numbers, Run};
-use qcow2_testing::{picture, rows};
+use qcow2_testing::sample_image::{
+    AUTOCLEAR, BLOCK, COUNTERS_4, DATA_ENTRY, EXTENTS, INFO, JSON, L2_TABLE, TABLE_LINES,
+};
+use qcow2_testing::{COPIED, counted, picture, rows};
 
 /// The runs of this file.
 pub(crate) fn runs() -> &'static [Run] {
@@ -32,7 +35,7 @@ const RUNS: &[Run] = rows! {
     Run { call: Command("at 1543"), reports: "data 0xa00 copied\n", ..OF_A_DISK },
     Run { call: Command("map"), reports: EXTENTS, ..OF_A_DISK },
     Run { call: Command("map json"), reports: JSON, ..OF_A_DISK },
-    Run { call: Command("tables"), before: COUNTED, after: COUNTED, reports: PLACES, ..OF_A_DISK },
+    Run { call: Command("tables"), before: COUNTED, after: COUNTED, reports: TABLE_LINES, ..OF_A_DISK },
     Run { call: Command("layout"), before: COUNTED, after: COUNTED, reports: LAYOUT, ..OF_A_DISK },
     Run { call: Command("layout svg"), before: COUNTED, after: COUNTED, reports: PICTURE, ..OF_A_DISK },
     Run { call: Command("refcount 5 0"), before: COUNTED, after: COUNTED, reports: "5 2\n0 1\n",
@@ -71,18 +74,10 @@ const OF_EDITS: Run = Run {
 
 // A refcount table in cluster 3, and its block in cluster 4. There the counters of clusters 0 to 5 are 1, but
 // that of cluster 5 is 2, and that of cluster 7 is 1.
-const COUNTED: Numbers = &[
-    (48, 0x600),
-    (56, 1 << 32),
-    (0x600, 0x800),
-    (0x800, 0x0001_0001_0001_0001),
-    (0x808, 0x0001_0002_0000_0001),
-    (0x9f8, 0),
-];
+const COUNTED: Numbers = counted! { (COUNTERS_4, 0x0001_0002_0000_0001), BLOCK_END };
 
-// Where everything lies in it.
-const PLACES: &str =
-    "header 0 1\nl1 1 1\nl2 0 2 0x0 0x8000 1\nrefcount-table 3 1\nrefcount-block 0 4 0\n";
+// The last counters of the block, to which the image reaches.
+const BLOCK_END: (u64, u64) = (BLOCK + 504, 0);
 
 // What each of its clusters is.
 const LAYOUT: &str = "0 1 header\n1 1 l1\n2 1 l2\n3 1 refcount-table\n4 1 refcount-block\n\
@@ -99,38 +94,19 @@ const PICTURE: &str = picture!(
 );
 
 // The same where each counter is its cluster's uses.
-const REPAIRED: Numbers = &[
-    (48, 0x600),
-    (56, 1 << 32),
-    (0x600, 0x800),
-    (0x800, 0x0001_0001_0001_0001),
-    (0x808, 0x0001_0001_0000_0000),
-    (0x9f8, 0),
-];
+const REPAIRED: Numbers = counted! { BLOCK_END };
 
 // The same with an autoclear feature.
-const UNCLEARED: Numbers = &[
-    (48, 0x600),
-    (56, 1 << 32),
-    (88, 1),
-    (0x600, 0x800),
-    (0x800, 0x0001_0001_0001_0001),
-    (0x808, 0x0001_0001_0000_0000),
-    (0x9f8, 0),
-];
+const UNCLEARED: Numbers = counted! { AUTOCLEAR, BLOCK_END };
 
 // The same without it, where guest cluster 0 is the data in cluster 6, and guest cluster 3 has none.
-const APPLIED: Numbers = &[
-    (48, 0x600),
-    (56, 1 << 32),
+const APPLIED: Numbers = counted! {
     (88, 0),
-    (1024, 0x8000_0000_0000_0c00),
-    (1048, 0),
-    (0x600, 0x800),
-    (0x800, 0x0001_0001_0001_0001),
-    (0x808, 0x0001_0000_0001_0000),
-    (0x9f8, 0),
-];
+    (L2_TABLE, COPIED + 0xc00),
+    (DATA_ENTRY, 0),
+    (COUNTERS_4, 0x0001_0000_0001_0000),
+    BLOCK_END,
+};
 
 // The data has one reference, by an entry with the copied flag.
 const CHECKED: &str = "leaked 5 1 2 1\nleaked 7 1 1 0\nfalse 0x600 5 2\n\
@@ -142,15 +118,3 @@ const OBJECT: &str = "{\n    \"image-end-offset\": 4096,\n    \"total-clusters\"
     \"filename\": \"IMAGE\",\n    \"format\": \"qcow2\"\n}\n";
 
 const DATA: &str = "DataFile { host_cluster: HostCluster(5), copied: true }";
-
-const INFO: &str = "version 3\ncluster-bits 9\nsize 32768\nrefcount-order 4\nl1 0x200 1\n\
-    refcount-table 0x0 0\nbacking none\nformat none\nexternal no\ndata-file none\n";
-
-const EXTENTS: &str = "0x0 0x600 backing\n0x600 0x200 data 0xa00\n0x800 0x7800 backing\n";
-
-const JSON: &str = "[{ \"start\": 0, \"length\": 1536, \"depth\": 0, \
-    \"present\": false, \"zero\": true, \"data\": false},\n\
-    { \"start\": 1536, \"length\": 512, \"depth\": 0, \
-    \"present\": true, \"zero\": false, \"data\": true, \"offset\": 2560},\n\
-    { \"start\": 2048, \"length\": 30720, \"depth\": 0, \
-    \"present\": false, \"zero\": true, \"data\": false}]\n";

@@ -3,8 +3,7 @@
 use super::run::Ended::{self, Done, Failed};
 use super::whole_images::{RUN, Run, check_runs};
 use crate::failing_output::Failure::{Flush, WriteAfter};
-use crate::sample_image::{COPIED, Numbers, counted};
-use qcow2_testing::rows;
+use qcow2_testing::{COPIED, Numbers, counted, rows};
 use std::test::Fail;
 
 // The sample image with counters, and a seventh cluster, 6, which is free.

@@ -4,11 +4,13 @@ use super::run::Ended::{self, Done, Failed};
 use super::run::{Failures, NO_FAILURES, check_line, run_line};
 use super::whole_images::sample_file;
 use crate::failing_output::Failure::{Flush, Never, Short, WriteAfter};
-use crate::sample_image::{COPIED, Numbers, check_sample, counted, sample_image};
 use qcow2_base::{Fault, UncountedPart};
 use qcow2_session::commands::locate_fault;
+use qcow2_testing::damages::{Refused, refused_images};
+use qcow2_testing::sample_image::{EXTERNAL, check_sample, sample_image};
 use qcow2_testing::{
-    FaultyFiles, TemporaryFile, each, part_of, rows, same, same_bytes, temporary_file,
+    COPIED, FaultyFiles, Numbers, TemporaryFile, VERSION_2, VERSION_3, counted, each, part_of,
+    rows, same, same_bytes, temporary_file,
 };
 use std::alloc::Global;
 use std::fs;
@@ -22,94 +24,11 @@ struct Row {
     lines: &'static str,
 }
 
-const FIELDS: &[Row] = rows! { Row:
-    { fault: Fault::NotQcow2,
-        before: &[(0, 0x5146_49fc_0000_0003)], lines: "in IMAGE: byte 0: magic is 0x514649fc\n" },
-    { fault: Fault::Version,
-        before: &[(0, 0x5146_49fb_0000_0007)], lines: "in IMAGE: byte 4: version is 7\n" },
-    { fault: Fault::ClusterSize, before: &[(16, 30)], lines: "in IMAGE: byte 20: cluster_bits is 30\n" },
-    { fault: Fault::HeaderShort, before: &[(96, 0x0000_0004_0000_0067)],
-        lines: "in IMAGE: byte 100: header_length is 103\n" },
-    { fault: Fault::HeaderBig, before: &[(96, 0x0000_0004_0000_0201)],
-        lines: "in IMAGE: byte 100: header_length is 513\nin IMAGE: byte 20: cluster_bits is 9\n" },
-    { fault: Fault::L1Unaligned, before: &[(40, 0x10_0001)],
-        lines: "in IMAGE: byte 40: l1_table_offset is 0x100001\nin IMAGE: byte 20: cluster_bits is 9\n" },
-    { fault: Fault::ReftableUnaligned, before: &[(48, 0x700)],
-        lines: "in IMAGE: byte 48: refcount_table_offset is 0x700\nin IMAGE: byte 20: cluster_bits is 9\n" },
-    { fault: Fault::RefcountWidth, before: &[(96, 0x0000_0007_0000_0068)],
-        lines: "in IMAGE: byte 96: refcount_order is 7\n" },
-    { fault: Fault::BackingNameLong, before: &[(8, 8), (16, 0x0000_0400_0000_0009)],
-        lines: "in IMAGE: byte 16: backing_file_size is 1024\n" },
-    { fault: Fault::BackingNamePlace, before: &[(8, 0x200), (16, 0x0000_0001_0000_0009)],
-        lines: "in IMAGE: byte 8: backing_file_offset is 0x200\nin IMAGE: byte 16: backing_file_size is 1\n\
-            in IMAGE: byte 20: cluster_bits is 9\n" },
-    // the name is the byte fb of the magic
-    { fault: Fault::BackingNameText, before: &[(8, 3), (16, 0x0000_0001_0000_0009)],
-        lines: "in IMAGE: byte 8: backing_file_offset is 0x3\nin IMAGE: byte 16: backing_file_size is 1\n" },
-    { fault: Fault::Incompatible(2),
-        before: &[(72, 2)], lines: "in IMAGE: byte 72: incompatible_features is 0x2\n" },
+const OF_COMMANDS: &[Row] = rows! { Row:
     { fault: Fault::VersionNeeded,
-        before: &[(0, 0x5146_49fb_0000_0002)], lines: "in IMAGE: byte 4: version is 2\n" },
+        before: &[(0, VERSION_2)], lines: "in IMAGE: byte 4: version is 2\n" },
     { fault: Fault::ExternalData,
-        before: &[(72, 4)], lines: "in IMAGE: byte 72: incompatible_features is 0x4\n" },
-    { fault: Fault::Uncounted(UncountedPart::Snapshots),
-        before: &[(56, 3)], lines: "in IMAGE: byte 60: nb_snapshots is 3\n" },
-};
-
-const EXTENSIONS: &[Row] = rows! { Row:
-    { fault: Fault::ExtensionsExceed, before: &[(104, 0x0000_0007_0000_0191)],
-        lines: "in IMAGE: byte 104: extension 0x7 of 401 bytes\n" },
-    // the first one ends eight bytes before the first cluster does, and the next with it
-    { fault: Fault::ExtensionsExceed, before: &[(104, 0x0000_0007_0000_0180), (496, 0x0000_0009_0000_0009)],
-        lines: "in IMAGE: byte 496: extension 0x9 of 9 bytes\n" },
-    { fault: Fault::ExtensionText, before: &[(104, 0xe279_2aca_0000_0001), (112, 0xff << 56)],
-        lines: "in IMAGE: byte 104: extension 0xe2792aca of 1 bytes\n" },
-    // the second of two names
-    { fault: Fault::ExtensionText,
-        before: &[(104, 0x4441_5441_0000_0001), (112, 0x61 << 56), (120, 0x4441_5441_0000_0001),
-        (128, 0xff << 56)], lines: "in IMAGE: byte 120: extension 0x44415441 of 1 bytes\n" },
-    { fault: Fault::FeatureNameCut, before: &[(104, 0x6803_f857_0000_0001)],
-        lines: "in IMAGE: byte 104: extension 0x6803f857 of 1 bytes\n" },
-    { fault: Fault::FormatConflict,
-        before: &[(104, 0xe279_2aca_0000_0001), (112, 0x61 << 56), (120, 0xe279_2aca_0000_0002),
-        (128, 0x6261 << 48)], lines: "in IMAGE: byte 104: extension 0xe2792aca of 1 bytes\n\
-            in IMAGE: byte 120: extension 0xe2792aca of 2 bytes\n" },
-    { fault: Fault::DataFileConflict,
-        before: &[(104, 0x4441_5441_0000_0001), (112, 0x61 << 56), (120, 0x4441_5441_0000_0002),
-        (128, 0x6261 << 48)], lines: "in IMAGE: byte 104: extension 0x44415441 of 1 bytes\n\
-            in IMAGE: byte 120: extension 0x44415441 of 2 bytes\n" },
-    { fault: Fault::Uncounted(UncountedPart::Bitmaps), before: &[(104, 0x2385_2875_0000_0000)],
-        lines: "in IMAGE: byte 104: extension 0x23852875 of 0 bytes\n" },
-    { fault: Fault::Uncounted(UncountedPart::Encryption),
-        before: &[(32, 0x0000_0002_0000_0001), (104, 0x0537_be77_0000_0000)],
-        lines: "in IMAGE: byte 104: extension 0x537be77 of 0 bytes\n" },
-    { fault: Fault::Uncounted(UncountedPart::Encryption),
-        before: &[(0, 0x5146_49fb_0000_0002), (32, 0x0000_0002_0000_0001)],
-        lines: "in IMAGE: byte 32: crypt_method is 2\n" },
-};
-
-const TABLES: &[Row] = rows! { Row:
-    { fault: Fault::EntryReserved, before: &[(512, COPIED + 0x401)],
-        lines: "in IMAGE: L1 entry 0, bytes at 0x200: 8000000000000401\n" },
-    { fault: Fault::EntryReserved, before: &[(1528, 2)],
-        lines: "in IMAGE: guest offset 0x7e00, L2 entry at 0x5f8: 0000000000000002\n" },
-    // the second L2 table, of guest offset 0x8000 on
-    { fault: Fault::EntryReserved, before: &[(32, 2), (520, 0x600), (1536 + 16, COPIED + (1 << 62))],
-        lines: "in IMAGE: guest offset 0x8400, L2 entry at 0x610: c000000000000000\n" },
-    { fault: Fault::EntryReserved, before: counted!((0x608, 0x801)),
-        lines: "in IMAGE: refcount table entry 1, bytes at 0x608: 0000000000000801\n" },
-    // clusters of 1024 bytes, and an L1 table in the second one
-    { fault: Fault::EntryUnaligned, before: &[(16, 10), (40, 0x400), (1024, COPIED + 0x600)],
-        lines: "in IMAGE: L1 entry 0, bytes at 0x400: 8000000000000600\n" },
-    { fault: Fault::TableTooBig, before: &[(32, 0x40_0001)],
-        lines: "in IMAGE: byte 36: l1_size is 4194305\nin IMAGE: byte 40: l1_table_offset is 0x200\n" },
-    { fault: Fault::TableTooBig, before: counted!((56, 0xffff_ffff_0000_0000)),
-        lines: "in IMAGE: byte 56: refcount_table_clusters is 4294967295\n\
-            in IMAGE: byte 48: refcount_table_offset is 0x600\n" },
-    { fault: Fault::TablePlace, before: &[(32, 65), (40, (1 << 56) - 512)],
-        lines: "in IMAGE: byte 36: l1_size is 65\nin IMAGE: byte 40: l1_table_offset is 0xfffffffffffe00\n" },
-    { fault: Fault::TablePlace, before: counted!((0x608, 1 << 56)),
-        lines: "in IMAGE: refcount table entry 1, bytes at 0x608: 0100000000000000\n" },
+        before: &[EXTERNAL], lines: "in IMAGE: byte 72: incompatible_features is 0x4\n" },
 };
 
 const COUNTERS: &[Row] = rows! { Row:
@@ -136,7 +55,7 @@ const OTHERS: &[Row] = rows! { Row:
     { fault: Fault::ClusterSize, before: &[], lines: "in IMAGE: this image doesn't have this fault\n" },
     { fault: Fault::Uncounted(UncountedPart::Snapshots),
         before: &[], lines: "in IMAGE: this image doesn't have this fault\n" },
-    { fault: Fault::EntryReserved, before: &[(0, 0x5146_49fb_0000_0004)],
+    { fault: Fault::EntryReserved, before: &[(0, VERSION_3 + 1)],
         lines: "in IMAGE: another fault comes first, 2\nin IMAGE: byte 4: version is 4\n" },
     { fault: Fault::TablePlace, before: &[(512, COPIED + 0x401)],
         lines: "in IMAGE: another fault comes first, 18\n\
@@ -174,18 +93,33 @@ fn an_entry_is_at_the_guest_offset_that_clusters_of_its_size_give(
 }
 
 #[test]
-fn a_fault_of_a_header_is_at_its_fields(rt: HostRuntime) -> Result<(), Fail> {
-    each(rt.alloc(), FIELDS, check_place)
+fn a_fault_of_an_image_is_where_that_has_it(rt: HostRuntime) -> Result<(), Fail> {
+    for rows in refused_images() {
+        each(rt.alloc(), rows, check_refused)?;
+    }
+    Ok(())
+}
+
+fn check_refused(alloc: Global, row: Refused) -> Result<(), Fail> {
+    let Refused {
+        fault,
+        changes: before,
+        place: lines,
+        ..
+    } = row;
+    check_place(
+        alloc,
+        Row {
+            fault,
+            before,
+            lines,
+        },
+    )
 }
 
 #[test]
-fn a_fault_of_an_extension_is_where_that_stands(rt: HostRuntime) -> Result<(), Fail> {
-    each(rt.alloc(), EXTENSIONS, check_place)
-}
-
-#[test]
-fn a_fault_of_a_table_is_at_its_entry_or_its_place(rt: HostRuntime) -> Result<(), Fail> {
-    each(rt.alloc(), TABLES, check_place)
+fn a_fault_of_some_commands_is_at_a_field(rt: HostRuntime) -> Result<(), Fail> {
+    each(rt.alloc(), OF_COMMANDS, check_place)
 }
 
 #[test]

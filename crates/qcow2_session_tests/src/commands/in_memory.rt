@@ -2,13 +2,12 @@
 
 use super::known_host::KnownHost;
 use super::run::words_of;
-use super::whole_images::INFO;
 use crate::failing_output::{FailingOutput, Failure};
-use crate::sample_image::{COPIED, Numbers, check_sample, counted, sample_image};
 use qcow2_base::{Device, Fault, FileStorage, Storage};
 use qcow2_session::{Command, Verdict, run_words};
 use qcow2_session_calls::{parse_command, run, run_on_file};
-use qcow2_testing::{KnownFile, KnownFiles, each, picture, rows, same};
+use qcow2_testing::sample_image::{EXTENTS, INFO, JSON, TABLE_LINES, check_sample, sample_image};
+use qcow2_testing::{COPIED, KnownFile, KnownFiles, Numbers, counted, each, picture, rows, same};
 use std::alloc::Global;
 use std::test::Fail;
 
@@ -35,19 +34,6 @@ const ROW: Row = Row {
 pub(crate) type Answer = Option<Result<Verdict, Fault>>;
 
 const DONE: Answer = Some(Ok(Verdict::Fine));
-
-pub(crate) const JSON: &str = "[{ \"start\": 0, \"length\": 1536, \"depth\": 0, \
-    \"present\": false, \"zero\": true, \"data\": false},\n\
-    { \"start\": 1536, \"length\": 512, \"depth\": 0, \
-    \"present\": true, \"zero\": false, \"data\": true, \"offset\": 2560},\n\
-    { \"start\": 2048, \"length\": 30720, \"depth\": 0, \
-    \"present\": false, \"zero\": true, \"data\": false}]\n";
-
-pub(crate) const EXTENTS: &str =
-    "0x0 0x600 backing\n0x600 0x200 data 0xa00\n0x800 0x7800 backing\n";
-
-const TABLES: &str =
-    "header 0 1\nl1 1 1\nl2 0 2 0x0 0x8000 1\nrefcount-table 3 1\nrefcount-block 0 4 0\n";
 
 const LAYOUT: &str =
     "0 1 header\n1 1 l1\n2 1 l2\n3 1 refcount-table\n4 1 refcount-block\n5 1 data 0x600\n";
@@ -86,7 +72,8 @@ const BY_TABLE: &[Row] = rows! {
 // Commands that print where tables and clusters are.
 const PLACES: &[Row] = rows! {
     // a table of 64 entries maps 32 KiB, and a block of 256 counters counts from cluster 0 on
-    Row { line: "tables IMAGE", before: counted!((88, 1)), printed: TABLES, after: counted!((88, 1)), ..ROW },
+    Row { line: "tables IMAGE", before: counted!((88, 1)), printed: TABLE_LINES, after: counted!((88, 1)),
+        ..ROW },
     // the header names no refcount table
     Row { line: "tables IMAGE", printed: "header 0 1\nl1 1 1\nl2 0 2 0x0 0x8000 0\nrefcount-table 0 0\n",
         ..ROW },

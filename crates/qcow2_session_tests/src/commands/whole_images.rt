@@ -1,18 +1,17 @@
 //! The commands over whole images: what they print, and what the file is then.
 
-use super::check::{ALL_KINDS, ALL_LINES};
-use super::in_memory::{EXTENTS, JSON};
 use super::run::Ended::{self, Done, Failed, NoCommand};
 use super::run::{NO_COMMAND, NO_FAILURES, check_line};
 use crate::failing_output::Failure::{self, Flush, Interrupted, Never, Short, WriteAfter};
-use crate::sample_image::{COPIED, Numbers, check_sample, sample_image};
-use qcow2_testing::{FaultyFiles, Opens, TemporaryFile, rows, same, temporary_file};
+use qcow2_testing::damages::{ALL_KINDS, ALL_LINES};
+use qcow2_testing::sample_image::{EXTENTS, INFO, JSON, check_sample, sample_image};
+use qcow2_testing::{
+    COPIED, FaultyFiles, Numbers, Opens, TemporaryFile, VERSION_2, VERSION_3, rows, same,
+    temporary_file,
+};
 use std::alloc::{AllocError, Global};
 use std::fs;
 use std::test::Fail;
-
-pub(crate) const INFO: &str = "version 3\ncluster-bits 9\nsize 32768\nrefcount-order 4\n\
-    l1 0x200 1\nrefcount-table 0x0 0\nbacking none\nformat none\nexternal no\ndata-file none\n";
 
 const LIST: &str = "0x600 data 0xa00 copied\n";
 
@@ -49,7 +48,7 @@ const NAMES_INFO: &str = "version 3\ncluster-bits 9\nsize 32768\nrefcount-order 
 
 // Version 2 with a refcount table, and a backing file whose name has a character of two bytes.
 const OLDER: Numbers<'static> = rows! {
-    (0, 0x5146_49fb_0000_0002), (8, 144), (16, 0x0000_0006_0000_0009), (48, 0x800), (56, 2 << 32),
+    (0, VERSION_2), (8, 144), (16, 0x0000_0006_0000_0009), (48, 0x800), (56, 2 << 32),
     (144, 0xc3a4_2e69_6d67_0000)
 };
 
@@ -208,7 +207,7 @@ const DAMAGED: &[Run<'static>] = rows! {
         after: NO_ROOM, ..RUN },
 };
 
-const VERSION_4: Numbers<'static> = &[(0, 0x5146_49fb_0000_0004)];
+const VERSION_4: Numbers<'static> = &[(0, VERSION_3 + 1)];
 
 #[test]
 fn each_command_says_what_the_image_means(rt: HostRuntime) -> Result<(), Fail> {
