@@ -1,6 +1,7 @@
 -- What does an image use, in which order, and what refers to it?
 use Rattle.std.specs.Prelude.{◌≡◌, ℕ, ◌+◌, ◌*◌, ◌^◌, ◌<◌, List, [], ◌∷◌, ◌++◌, if◌then◌else◌, option_map, option_to_list, Some, None}
 use Rattle.std.specs.Int.{div_ceil}
+use Rattle.qcow2_base.specs.Format.{most_l1_entries, most_reftable_entries}
 use Rattle.qcow2_base.specs.Storage.{Image, OnImage, StorageState}
 use Rattle.qcow2_base.specs.declared.types.HostCluster.{HostCluster}
 use Rattle.qcow2_metadata.specs.Entries.L2Entry.{allocation, is_compressed}
@@ -72,9 +73,15 @@ guest_list tables image = list_from (l1_list (geometry_of tables.header) image) 
 abbrev pub use_list : ImageTables → Image → List Use
 use_list tables image = tables_list tables ++ guest_list tables image
 
--- what a use may be owned by: the index of an entry of the L1 table or the refcount table, or a guest cluster
+-- how many owners there can be of a kind: entries of the L1 table, entries of the refcount table, or guest clusters
+abbrev pub most_owners : UseKind → ℕ
+most_owners L2Table = most_l1_entries
+most_owners RefcountBlock = most_reftable_entries
+most_owners kind = 2 ^ 40
+
+-- a use's owner is one of those of its kind
 abbrev pub IsOwned : Use → Type 0
-IsOwned one = one.owner < 2 ^ 40
+IsOwned one = one.owner < most_owners one.kind
 
 -- the kind that a tally counts it as
 abbrev pub tally_kind : UseKind → TallyKind

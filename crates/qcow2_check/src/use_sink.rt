@@ -12,8 +12,8 @@ use qcow2_metadata::{L2Table, Table};
 
 /// What takes the uses of an image, one after another, as the walk over an image comes to them.
 ///
-/// An implementor says by `takes` what it becomes by some uses, and proves that no uses change nothing, and
-/// that uses taken after others are both taken.
+/// An implementor defines by `takes` how a list of uses changes it. It proves that no uses change nothing,
+/// and that a list taken after another is the same as both in one.
 pub trait UseSink {
     /// A sink that takes these uses, in this order, becomes another.
     ghost takes: { List AnyUse → Self → Self → Type 0 };
@@ -24,8 +24,8 @@ pub trait UseSink {
         ensures fault { IsOkUnless result NoMemory }
         ensures taken { OnOk result (takes (used ∷ []) self.old self.new) };
 
-    /// Takes what the entries refer to of the L2 table of the L1 entry at an index, in order. A sink that
-    /// has a faster way over a whole table has a body of its own.
+    /// Takes the references of all entries of an L2 table, in order. The index is that of the L1 entry that
+    /// names the table. A sink that has a faster way over a whole table has a body of its own.
     fn take_table(&mut self, table: &L2Table, l1_index: usize) -> Result<(), Fault>
         requires { l1_index < most_l1_entries }
         ensures fault { IsOkUnless result NoMemory }

@@ -54,8 +54,8 @@ impl Use {
     }
 }
 
-/// What the entry at an index of the L2 table of an L1 entry refers to. Nothing where guest data lies in an
-/// external data file.
+/// The reference of the entry at an index of an L2 table, which the L1 entry at another index names. None
+/// where guest data lies in an external data file.
 #[inline]
 #[tactic(auto, using(crate::proofs::UsesLemmas::guest_fits))]
 pub(crate) fn entry_use(table: &L2Table, l1_index: usize, index: usize) -> Option<Use>

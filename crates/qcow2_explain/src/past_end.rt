@@ -48,8 +48,10 @@ fn places_past_end<S: Storage>(
     walk_header(header, &mut file)?;
     match file.missing.map(|used| used.kind) {
         Some(UseKind::L1Table) => return fields_of(alloc, image, Topic::L1Table),
-        Some(_) => return fields_of(alloc, image, Topic::RefTable),
-        None => {}
+        Some(UseKind::RefcountTable) => return fields_of(alloc, image, Topic::RefTable),
+        // The walk over a header takes none of these others.
+        Some(UseKind::Header | UseKind::RefcountBlock | UseKind::L2Table) => {}
+        Some(UseKind::Data | UseKind::Compressed) | None => {}
     }
     let reftable = load_reftable(alloc, image, header)?;
     let block = block_past(header, &reftable, clusters)?;

@@ -19,7 +19,7 @@ const OF_MEMORY: Search = Search::Elsewhere(
     "this fault is of the machine's memory, and not of an image",
 );
 
-/// What is looked at for a fault. Fields are those that are shown.
+/// What is searched for a fault. Fields are those that are shown.
 #[derive(Clone, Copy)]
 pub(super) enum Search {
     /// Fields of a header that can't be loaded.

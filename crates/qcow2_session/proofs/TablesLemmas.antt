@@ -1,20 +1,24 @@
-use Rattle.std.proofs.Common.{◌≡◌, ℕ, ◌+◌, ◌-◌, ◌*◌, ◌^◌, ◌<◌, ◌≤◌, List, [], ◌∷◌, ◌++◌, append-nil, append_assoc, flat_map, Result, Ok, IsTrue, ap, sym, ◌∙◌, arith}
+use Rattle.std.proofs.Common.{◌≡◌, ℕ, zero, suc, ◌+◌, ◌-◌, ◌*◌, ◌^◌, ◌<◌, ◌≤◌, List, [], ◌∷◌, ◌++◌, drop, flat_map, get_or, length, map, set, take, Result, Ok, IsTrue, ap, refl, sym, ◌∙◌, arith}
+use native.Mathlib.Numerals.{unary_clauses}
 use Rattle.std.proofs.Math.Pow.{pow_mono}
-use Rattle.std.proofs.lemmas.List.Concat.{flat_map-append}
+use Rattle.std.proofs.lemmas.Grind.{flat_map-append}
+use Rattle.std.proofs.lemmas.List.{map-append}
 use Rattle.std.proofs.lemmas.Nat.{mul-lt}
-use Rattle.std.specs.List.{range_with_len}
-use Rattle.qcow2_apply.proofs.GuestEditsLemmas.{range-split}
 use Rattle.qcow2_base.specs.Storage.{Image, OnImage, OnlyReads, StorageState}
 use Rattle.qcow2_base.specs.declared.fault.Fault.{Fault}
 use Rattle.qcow2_check.proofs.FlagsLemmas.{guest_offset_fits}
-use Rattle.qcow2_check.specs.Counters.{CountersState, IsSameButBlock, placed_reftable}
-use Rattle.qcow2_check.specs.NamedTables.{loaded_l1_table, reftable_cluster}
+use Rattle.qcow2_check.specs.Counters.{CountersState, IsSameButBlock, counter_of, placed_reftable}
+use Rattle.qcow2_check.specs.NamedTables.{loaded_l1_table}
 use Rattle.qcow2_check.specs.Uses.{image_tables}
+use Rattle.qcow2_check.specs.Walk.{tables_list}
+use Rattle.qcow2_check.specs.declared.uses.Use.{Use}
+use Rattle.qcow2_check.specs.declared.uses.UseKind.{UseKind}
+use Rattle.qcow2_check.specs.declared.uses.UseKind.TheVariants as kind
 use Rattle.qcow2_metadata.specs.Header.{HeaderRecord}
 use Rattle.qcow2_metadata.specs.Results.{and_then, result_map}
-use Rattle.qcow2_session.specs.Commands.Tables.{block_place, block_places, first_places, image_places, l2_place, l2_places, places_of, reftable_entries}
+use Rattle.qcow2_session.proofs.PrintingLemmas.{prints_no-more, then_prints}
+use Rattle.qcow2_session.specs.Commands.Tables.{AddsRows, RowsState, counted_row, counting_row, image_rows, mapping_row, rows_of}
 use Rattle.qcow2_session.specs.declared.commands.tables.TableLine.{TableLine}
-use Rattle.qcow2_session.specs.declared.commands.tables.TableLine.TheVariants as line
 
 -- what an L2 table maps begins at an offset that fits 64 bits
 pub ruleset table_starts = (guest_offset_fits)
@@ -35,60 +39,71 @@ block_start_fits bits index low below =
     let all = mul-lt index (2 ^ bits) 4194304 (2 ^ 24 + 1) below (omega (arith, each)) in
     omega (arith, all)
 
--- lists of what is at numbers from 0 on, and that of one number more
-flat-more : {X : Type 0} (f : ℕ → List X) (n : ℕ) → flat_map f (range_with_len 0 (n + 1)) ≡ flat_map f (range_with_len 0 n) ++ f n
-flat-more f n = ap (flat_map f) (range-split n 1) ∙ flat_map-append f (range_with_len 0 n) (n ∷ [])
-    ∙ ap (λ list. flat_map f (range_with_len 0 n) ++ list) (append-nil (f n))
+-- rows of which the first had their counters read
+abbrev pub rows_read : (TableLine → TableLine) → List TableLine → ℕ → List TableLine
+rows_read read rows i = map read (take i rows) ++ drop i rows
 
--- what is added to a list of such lists
-added-more : {X : Type 0} (f : ℕ → List X) (start so_far now : List X) (n : ℕ) → so_far ≡ start ++ flat_map f (range_with_len 0 n) → so_far ++ f n ≡ now
-    → now ≡ start ++ flat_map f (range_with_len 0 (n + 1))
-added-more f start so_far now n before here = sym here ∙ ap (λ list. list ++ f n) before ∙ append_assoc start (flat_map f (range_with_len 0 n)) (f n)
-    ∙ ap (λ list. start ++ list) (sym (flat-more f n))
+read-next : (read : TableLine → TableLine) (rows : List TableLine) (i : ℕ) (default : TableLine) → i < length rows
+    → set (rows_read read rows i) i (read (get_or (rows_read read rows i) i default)) ≡ rows_read read rows (i + 1)
+read-next read [] i default below = let never : ⊥ = omega (arith, below) in elim never [ ]
+read-next read (row ∷ rows) zero default below = refl
+read-next read (row ∷ rows) (suc i) default below =
+    simp unary_clauses (ap (λ rest. read row ∷ rest) (simp unary_clauses at (read-next read rows i default (omega (arith, below)))))
 
--- the blocks of the entries so far, and that of the next
-pub blocks_more : (header : HeaderRecord) (reftable : List ℕ) (start so_far now : List TableLine) (n : ℕ) → so_far ≡ start ++ block_places header reftable n
-    → so_far ++ block_place header reftable n ≡ now → now ≡ start ++ block_places header reftable (n + 1)
-blocks_more header reftable = added-more (block_place header reftable)
+-- an answer that is the expected value is that value
+abbrev pub IsAnswer : {X : Type 0} → X → X → Type 0
+IsAnswer {X} meant value = ◌≡◌ {A = Result X Fault} (Ok meant) (Ok value)
 
--- an answer that is the expected list is that list
-abbrev pub IsListed : List TableLine → List TableLine → Type 0
-IsListed meant list = ◌≡◌ {A = Result (List TableLine) Fault} (Ok meant) (Ok list)
+same : {X : Type 0} (meant value : X) → IsAnswer meant value → meant ≡ value
+same meant value is = grind (arith, is)
 
-same-list : (meant list : List TableLine) → IsListed meant list → meant ≡ list
-same-list meant list is = grind (arith, is)
+-- those rows, and the next, whose counter is read after others
+pub rows-more : {T : Type 0} (x : T) (image mid : StorageState) (old now : CountersState) (rows so_far : List TableLine) (i : ℕ) (default row : TableLine)
+    → i < length rows → IsTrue image.tells → OnlyReads (Ok x) image mid → IsSameButBlock image old now
+    → OnImage mid (λ bytes. IsAnswer (counted_row (counter_of now.header now.reftable bytes) (get_or so_far i default)) row)
+    → so_far ≡ rows_read (counted_row (counter_of old.header old.reftable image.byte_at)) rows i
+    → set so_far i row ≡ rows_read (counted_row (counter_of old.header old.reftable image.byte_at)) rows (i + 1)
+rows-more x image mid old now rows so_far i default row below told reads kept exact before =
+    let read = λ (counters : CountersState) (bytes : Image). counted_row (counter_of counters.header counters.reftable bytes) in
+    let reads_same : read now mid.byte_at ≡ read old image.byte_at = ap (λ (counters : CountersState). read counters mid.byte_at) kept.same ∙ ap (read old) reads.bytes in
+    let next : row ≡ read old image.byte_at (get_or so_far i default) =
+    sym (same _ _ (exact (rw reads.device.tells told))) ∙ ap (λ f. f (get_or so_far i default)) reads_same in
+    rw (next, before) (read-next (read old image.byte_at) rows i default below)
 
--- the L2 tables of the entries so far, and that of the next, which is read after others
-pub tables-more : {T : Type 0} (x : T) (image mid : StorageState) (old now : CountersState) (header : HeaderRecord) (l1 : List ℕ) (start so_far new : List TableLine)
-    (n : ℕ) → IsTrue image.tells → OnlyReads (Ok x) image mid → IsSameButBlock image old now
-    → OnImage mid (λ bytes. IsListed (so_far ++ l2_place (image_tables header l1 now.reftable) bytes n) new)
-    → so_far ≡ start ++ l2_places (image_tables header l1 old.reftable) image.byte_at n
-    → new ≡ start ++ l2_places (image_tables header l1 old.reftable) image.byte_at (n + 1)
-tables-more x image mid old now header l1 start so_far new n told reads kept exact before =
-    let place = λ (reftable : List ℕ) (bytes : Image). so_far ++ l2_place (image_tables header l1 reftable) bytes n in
-    let at_mid : place now.reftable mid.byte_at ≡ new = same-list _ _ (exact (rw reads.device.tells told)) in
-    let tables : now.reftable ≡ old.reftable = ap (λ (c : CountersState). c.reftable) kept.same in
-    let here : place old.reftable image.byte_at ≡ new = ap (λ r. place r image.byte_at) (sym tables) ∙ ap (place now.reftable) (sym reads.bytes) ∙ at_mid in
-    added-more (l2_place (image_tables header l1 old.reftable) image.byte_at) start so_far new n before here
+-- a use's row after its counter was read
+counted-row : (header : HeaderRecord) (counter : ℕ → ℕ) (used : Use) → map (counted_row counter) (mapping_row header (λ c. 0) used) ≡ mapping_row header counter used
+counted-row header counter used = by_kind used.kind refl
+  where
+    by_kind : (k : UseKind) → used.kind ≡ k → map (counted_row counter) (mapping_row header (λ c. 0) used) ≡ mapping_row header counter used
+    by_kind kind.L2Table is = rw is refl
+    by_kind kind.Header is = rw is refl
+    by_kind kind.L1Table is = rw is refl
+    by_kind kind.RefcountTable is = rw is refl
+    by_kind kind.RefcountBlock is = rw is refl
+    by_kind kind.Data is = rw is refl
+    by_kind kind.Compressed is = rw is refl
 
--- a list that ends with an item and others
-ends-with : {X : Type 0} (first second last : List X) (item : X) → first ++ (second ++ item ∷ last) ≡ ((first ++ second) ++ item ∷ []) ++ last
-ends-with first second last item = sym (append_assoc (first ++ second) (item ∷ []) last ∙ append_assoc first second (item ∷ last))
+-- those of all uses
+pub counted-rows : (header : HeaderRecord) (counter : ℕ → ℕ) (uses : List Use)
+    → map (counted_row counter) (flat_map (mapping_row header (λ c. 0)) uses) ≡ flat_map (mapping_row header counter) uses
+counted-rows header counter [] = refl
+counted-rows header counter (used ∷ uses) = grind (arith, map-append, counted-row header counter used, counted-rows header counter uses)
 
--- where everything lies, by what was read in turn
-pub all-places : (header : HeaderRecord) (old mid : Image) (l1 reftable : List ℕ) (first so_far all : List TableLine) → loaded_l1_table header old ≡ Ok l1
-    → placed_reftable header old ≡ Ok reftable → mid ≡ old → first ≡ first_places header
-    → IsListed (first ++ l2_places (image_tables header l1 reftable) mid header.v2.l1_size) so_far
-    → all ≡ (so_far ++ line.RefcountTable (reftable_cluster header) header.v2.refcount_table_clusters ∷ []) ++ block_places header reftable (reftable_entries header)
-    → image_places header old ≡ Ok all
-all-places header old mid l1 reftable first so_far all loads places bytes begins listed is =
-    let tables = image_tables header l1 reftable in
-    let table = line.RefcountTable (reftable_cluster header) header.v2.refcount_table_clusters in
-    let blocks = block_places header reftable (reftable_entries header) in
-    let two : first_places header ++ l2_places tables old header.v2.l1_size ≡ so_far =
-    ap (λ list. list ++ l2_places tables old header.v2.l1_size) (sym begins) ∙ ap (λ (image : Image). first ++ l2_places tables image header.v2.l1_size) (sym bytes)
-    ∙ same-list _ _ listed in
-    let whole : places_of tables old ≡ all = ends-with (first_places header) (l2_places tables old header.v2.l1_size) blocks table
-    ∙ ap (λ list. (list ++ table ∷ []) ++ blocks) two ∙ sym is in
-    ap (λ read. and_then read (λ numbers. result_map (λ named. places_of (image_tables header numbers named) old) (placed_reftable header old))) loads
-    ∙ ap (result_map (λ named. places_of (image_tables header l1 named) old)) places ∙ ap Ok whole
+-- all rows, by what was read in turn
+pub all-rows : (header : HeaderRecord) (old mid : Image) (l1 reftable : List ℕ) (walked : RowsState) (mapping : List TableLine) → loaded_l1_table header old ≡ Ok l1
+    → placed_reftable header old ≡ Ok reftable → mid ≡ old
+    → AddsRows (tables_list (image_tables header l1 reftable)) (record { header = header; mapping = []; counting = [] }) walked
+    → IsAnswer (map (counted_row (counter_of header reftable mid)) walked.mapping) mapping → image_rows header old ≡ Ok (mapping ++ walked.counting)
+all-rows header old mid l1 reftable walked mapping loads places bytes adds read =
+    let uses = tables_list (image_tables header l1 reftable) in
+    let counter = counter_of header reftable old in
+    let first : mapping ≡ flat_map (mapping_row header counter) uses = sym (same _ _ read)
+    ∙ ap (λ (image : Image). map (counted_row (counter_of header reftable image)) walked.mapping) bytes
+    ∙ ap (λ (rows : RowsState). map (counted_row counter) rows.mapping) adds ∙ counted-rows header counter uses in
+    let last : walked.counting ≡ flat_map (counting_row header) uses = ap (λ (rows : RowsState). rows.counting) adds in
+    ap (λ numbers. and_then numbers (λ l1. result_map (λ named. rows_of (image_tables header l1 named) old) (placed_reftable header old))) loads
+    ∙ ap (result_map (λ named. rows_of (image_tables header l1 named) old)) places
+    ∙ ap Ok (sym (ap (λ rows. rows ++ walked.counting) first ∙ ap (λ rows. flat_map (mapping_row header counter) uses ++ rows) last))
+
+-- two lists of rows are printed after each other
+pub ruleset rows_printed = (then_prints, prints_no-more, flat_map-append)

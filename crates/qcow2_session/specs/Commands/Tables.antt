@@ -1,14 +1,17 @@
 -- What does the command `tables` print?
-use Rattle.std.specs.Prelude.{ℕ, ◌*◌, ◌^◌, List, [], ◌∷◌, ◌++◌, flat_map, slice_index, Some, None, Result, codes}
+use Rattle.std.specs.Prelude.{◌≡◌, ℕ, ◌*◌, ◌^◌, List, [], ◌∷◌, ◌++◌, flat_map, Result, codes}
 use Rattle.std.specs.Fmt.{decimal}
-use Rattle.std.specs.Int.{div_ceil}
-use Rattle.std.specs.List.{range_with_len}
 use Rattle.qcow2_base.specs.Storage.{Image}
 use Rattle.qcow2_base.specs.declared.fault.Fault.{Fault}
 use Rattle.qcow2_base.specs.declared.types.GuestOffset.{GuestOffset}
+use Rattle.qcow2_base.specs.declared.types.HostCluster.{HostCluster}
 use Rattle.qcow2_check.specs.Counters.{counter_of, counters_each, placed_reftable}
-use Rattle.qcow2_check.specs.NamedTables.{l1_cluster, loaded_l1_table, named_block, named_cluster, reftable_cluster}
+use Rattle.qcow2_check.specs.NamedTables.{loaded_l1_table}
 use Rattle.qcow2_check.specs.Uses.{ImageTables, image_tables}
+use Rattle.qcow2_check.specs.Walk.{tables_list}
+use Rattle.qcow2_check.specs.declared.uses.Use.{Use}
+use Rattle.qcow2_check.specs.declared.uses.UseKind.{UseKind}
+use Rattle.qcow2_check.specs.declared.uses.UseKind.TheVariants as kind
 use Rattle.qcow2_metadata.specs.Header.{HeaderRecord}
 use Rattle.qcow2_metadata.specs.Results.{and_then, result_map}
 use Rattle.qcow2_metadata.specs.Table.{l2_entries}
@@ -36,58 +39,70 @@ table_line (line.RefcountTable first count) = codes "refcount-table " ++ pair_te
 table_line (line.RefcountBlock index cluster counted) =
     codes "refcount-block " ++ pair_text index cluster.0 ++ codes " " ++ decimal counted.0 ++ codes "\n"
 
--- how many bytes of the disk an L2 table maps
-abbrev pub mapped_bytes : ℕ → ℕ
-mapped_bytes cb = l2_entries cb * 2 ^ cb
+-- the row of the L2 table of the L1 entry at an index: what it maps of the disk, and the counter of its cluster
+abbrev pub l2_row : HeaderRecord → (ℕ → ℕ) → HostCluster → ℕ → TableLine
+l2_row header counter cluster index =
+    let each = l2_entries header.v2.cluster_bits in
+    let size = 2 ^ header.v2.cluster_bits in
+    line.L2Table index cluster (record { 0 = index * each * size }) (each * size) (counter cluster.0)
 
--- the L2 table that the L1 entry at an index names, if it names one: its cluster, what it maps of the disk, and the counter
--- of the cluster
-abbrev pub l2_place : ImageTables → Image → ℕ → List TableLine
-l2_place tables image index = elim (named_cluster tables.header.v2.cluster_bits (slice_index tables.l1 index)) [
-  | None ↦ []
-  | Some cluster ↦ line.L2Table index cluster
-      (record { 0 = index * l2_entries tables.header.v2.cluster_bits * 2 ^ tables.header.v2.cluster_bits })
-      (mapped_bytes tables.header.v2.cluster_bits) (counter_of tables.header tables.reftable image cluster.0) ∷ []
-]
+-- the row of the block of the refcount table entry at an index: the first cluster that it counts
+abbrev pub block_row : HeaderRecord → HostCluster → ℕ → TableLine
+block_row header cluster index = line.RefcountBlock index cluster (record { 0 = index * counters_each header })
 
--- the block that the refcount table entry at an index names, if it names one: its cluster, and the first that it counts
-abbrev pub block_place : HeaderRecord → List ℕ → ℕ → List TableLine
-block_place header reftable index = elim (named_block header.v2.cluster_bits (slice_index reftable index)) [
-  | None ↦ []
-  | Some cluster ↦ line.RefcountBlock index cluster (record { 0 = index * counters_each header }) ∷ []
-]
+-- the row of a use as the header, the L1 table or an L2 table, by the counter of each cluster
+abbrev pub mapping_row : HeaderRecord → (ℕ → ℕ) → Use → List TableLine
+mapping_row header counter used = of_kind used.kind
+  where
+    of_kind : UseKind → List TableLine
+    of_kind kind.Header = line.Header ∷ []
+    of_kind kind.L1Table = line.L1Table used.clusters.first used.clusters.count.0 ∷ []
+    of_kind kind.L2Table = l2_row header counter used.clusters.first used.owner ∷ []
+    of_kind other = []
 
--- how many entries the refcount table has
-abbrev pub reftable_entries : HeaderRecord → ℕ
-reftable_entries header = header.v2.refcount_table_clusters * l2_entries header.v2.cluster_bits
+-- the row of a use as the refcount table or a block of it
+abbrev pub counting_row : HeaderRecord → Use → List TableLine
+counting_row header used = of_kind used.kind
+  where
+    of_kind : UseKind → List TableLine
+    of_kind kind.RefcountTable = line.RefcountTable used.clusters.first used.clusters.count.0 ∷ []
+    of_kind kind.RefcountBlock = block_row header used.clusters.first used.owner ∷ []
+    of_kind other = []
 
--- the header and the L1 table
-abbrev pub first_places : HeaderRecord → List TableLine
-first_places header = line.Header
-    ∷ line.L1Table (l1_cluster header) (div_ceil (8 * header.v2.l1_size) (2 ^ header.v2.cluster_bits)) ∷ []
-
--- the L2 tables that the first L1 entries name
-abbrev pub l2_places : ImageTables → Image → ℕ → List TableLine
-l2_places tables image entries = flat_map (l2_place tables image) (range_with_len 0 entries)
-
--- the blocks that the first refcount table entries name
-abbrev pub block_places : HeaderRecord → List ℕ → ℕ → List TableLine
-block_places header reftable entries = flat_map (block_place header reftable) (range_with_len 0 entries)
-
--- where everything lies in an image with these tables
-abbrev pub places_of : ImageTables → Image → List TableLine
-places_of tables image = first_places tables.header ++ l2_places tables image tables.header.v2.l1_size
-    ++ line.RefcountTable (reftable_cluster tables.header) tables.header.v2.refcount_table_clusters
-    ∷ block_places tables.header tables.reftable (reftable_entries tables.header)
+-- where everything lies in an image with these tables: first what maps the disk, and then what counts clusters
+abbrev pub rows_of : ImageTables → Image → List TableLine
+rows_of tables image =
+    flat_map (mapping_row tables.header (counter_of tables.header tables.reftable image)) (tables_list tables)
+    ++ flat_map (counting_row tables.header) (tables_list tables)
 
 -- where everything lies in an image with this header, or why its L1 table or its refcount table can't be loaded
-abbrev pub image_places : HeaderRecord → Image → Result (List TableLine) Fault
-image_places header image = and_then (loaded_l1_table header image) (λ l1.
-    result_map (λ reftable. places_of (image_tables header l1 reftable) image) (placed_reftable header image))
+abbrev pub image_rows : HeaderRecord → Image → Result (List TableLine) Fault
+image_rows header image = and_then (loaded_l1_table header image) (λ l1.
+    result_map (λ reftable. rows_of (image_tables header l1 reftable) image) (placed_reftable header image))
+
+-- the rows that a sink has of an image with this header, in two lists
+pub record RowsState : Type 0 where
+  pub header : HeaderRecord
+  pub mapping : List TableLine
+  pub counting : List TableLine
+
+-- it takes some uses, before counters are read
+abbrev pub AddsRows : List Use → RowsState → RowsState → Type 0
+AddsRows uses old new = new ≡ record {
+  header = old.header;
+  mapping = old.mapping ++ flat_map (mapping_row old.header (λ cluster. 0)) uses;
+  counting = old.counting ++ flat_map (counting_row old.header) uses;
+}
+
+-- a row after the counter of its cluster was read, if it is an L2 table's
+abbrev pub counted_row : (ℕ → ℕ) → TableLine → TableLine
+counted_row counter (line.L2Table index cluster start mapped unread) =
+    line.L2Table index cluster start mapped (counter cluster.0)
+counted_row counter row = row
 
 -- the lines of the command `tables`
 abbrev pub tables_lines : HeaderRecord → Image → Result (List ℕ) Fault
-tables_lines header image = result_map (flat_map table_line) (image_places header image)
+tables_lines header image = result_map (flat_map table_line) (image_rows header image)
 
 -- the facts of the command `tables`
 abbrev pub tables_facts : CommandFacts

@@ -41,7 +41,7 @@ pub fn count_references<S: Storage, O: Write>(
     print_lines(replies.as_slice(), out)
 }
 
-// The same, but that it waits until the steps are on the device before it prints.
+// The same, and waits until the steps are on the device before it prints.
 pub(super) fn count_and_wait<S: Device, O: Write>(
     alloc: Global,
     image: &mut S,

@@ -44,7 +44,7 @@ pub fn edit_entries<S: Storage, O: Write>(
     print_outcome(&outcome, out)
 }
 
-// The same, but that it waits until the edits are on the device before it prints.
+// The same, and waits until the edits are on the device before it prints.
 pub(super) fn edit_and_wait<S: Device, O: Write>(
     alloc: Global,
     image: &mut S,

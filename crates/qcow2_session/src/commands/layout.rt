@@ -37,7 +37,7 @@ pub enum LayoutForm {
 /// that of the header, a table or a block is printed, or else the one of the lowest guest offset.
 ///
 /// As a picture it has at most 4096 squares, in rows of 64. Each stands for as many clusters, a power of two,
-/// and has the colour of what strikes most in them.
+/// and has the colour of the most severe content in them.
 ///
 /// Returns the fault of `Layout::new` before any line. A fault after a line is 34 or 35, and comes before all
 /// of a picture. A failed write to `out` is the storage fault. Changes no byte of the image.

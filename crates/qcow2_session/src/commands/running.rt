@@ -38,12 +38,12 @@ use std::io::Write;
 /// closes it. What it prints is flushed, also before a fault. One that reads all tables reads them in pages.
 ///
 /// Returns 34 where the file can't be opened; 35 where memory runs out for the pages. `apply` returns 41
-/// where the L1 table is too short, and if the image has the data 32 and the position of the first edit that
-/// doesn't fit the disk or maps a cluster past the image's end. A regular file and a block device have an
-/// end. After these nothing is printed, and the file is as it was, but for what the load of the header
-/// wrote. Else it returns what `run` does, and 34 where the flush fails. No other file changes, unless it is
-/// the same one. Where `files` say that another program came to the image, 39 comes in place of 34: a part
-/// of what was asked may be done then.
+/// where the L1 table is too short. Where the data is in the image, it returns 32 and the position of the
+/// first edit that doesn't fit the disk or maps a cluster past the image's end. A regular file and a block
+/// device have an end. After these nothing is printed, and the file is as it was, but for what the load of
+/// the header wrote. Else it returns what `run` does, and 34 where the flush fails. No other file changes,
+/// unless it is the same one. Where `files` say that another program came to the image, 39 comes in place of
+/// 34: a part of what was asked may be done then.
 pub fn run_on_file<R: ImageFiles, O: Write>(
     alloc: Global,
     files: &mut R,
@@ -172,7 +172,7 @@ fn run_and_flush<S: Device, O: Write>(
     after_flush(ran, out.flush())
 }
 
-/// What a run comes to whose output was flushed after it: its own fault comes before a failed flush.
+/// The result of a run after its output was flushed. The run's own fault comes before that of the flush.
 pub(super) fn after_flush(
     ran: Result<Verdict, Fault>,
     flushed: io::Result<()>,
@@ -261,7 +261,7 @@ fn run_with<S: Device, O: Write>(
     }
 }
 
-/// What a run returns whose command's own function returns no verdict.
+/// The result of a run whose command's function returns no verdict: `Fine` unless it failed.
 pub(super) fn fine(ran: Result<(), Fault>) -> Result<Verdict, Fault>
     ensures answer { result ≡ fine_unless_failed ran }
     ensures verdict { IfOk result (λ verdict. verdict ≡ Fine) }

@@ -1,24 +1,25 @@
 //! The command `tables`: where the header, the tables and the refcount blocks lie.
 
-ghost use Rattle.std.specs.Prelude.{◌≡◌, ◌⊎◌, ◌+◌, ◌*◌, ◌^◌, ◌<◌, ◌≤◌, ◌++◌, Ok, IfOk, IsOkUnless, IfSome, OnOk, length, slice_index};
+ghost use Rattle.std.specs.Prelude.{◌≡◌, ◌⊎◌, ◌+◌, ◌<◌, ◌≤◌, ◌++◌, Ok, flat_map, length, map};
+ghost use Rattle.std.proofs.Common.{arith};
+ghost use Rattle.std.proofs.lemmas.Grind.{flat_map-append};
+ghost use Rattle.std.proofs.lemmas.List.{append-nil, append_assoc};
 ghost use Rattle.qcow2_base.specs.Format.{most_l1_entries, most_reftable_entries};
 ghost use Rattle.qcow2_base.specs.Storage.{OnImage};
-ghost use Rattle.qcow2_base.specs.declared.fault.Fault.TheVariants.{NoMemory};
-ghost use Rattle.qcow2_check.specs.Counters.{IsKeptBlockOf, IsReftableFault, IsSameButBlock};
+ghost use Rattle.qcow2_check.specs.Counters.{IsKeptBlockOf, IsReftableFault, IsSameButBlock, counter_of};
 ghost use Rattle.qcow2_check.specs.NamedTables.{l1_cluster, l1_layout};
-ghost use Rattle.qcow2_check.specs.Uses.{image_tables};
-ghost use Rattle.qcow2_metadata.specs.Header.{geometry_of};
 ghost use Rattle.qcow2_metadata.specs.Results.{Reads};
 ghost use Rattle.qcow2_metadata.specs.Table.{IsTableFault};
-ghost use Rattle.qcow2_session.specs.Commands.Printing.{Prints, PrintsLast, run_over};
-ghost use Rattle.qcow2_session.specs.Commands.Tables.{block_place, block_places, first_places, image_places, l2_place, l2_places, mapped_bytes, pair_text, range_text, reftable_entries, table_line, tables_lines};
+ghost use Rattle.qcow2_session.specs.Commands.Printing.{Prints, PrintsLast, PrintsText, run_over};
+ghost use Rattle.qcow2_session.specs.Commands.Tables.{AddsRows, block_row, counted_row, image_rows, l2_row, pair_text, range_text, table_line, tables_lines};
 
 use crate::lines::{LineBuffer, ToLine, print_lines};
-use qcow2_base::{ClusterCount, Fault, GuestCluster, GuestOffset, HostCluster, Storage};
-use qcow2_check::{Counters, load_l1_table, named_block, named_cluster};
-use qcow2_metadata::{Header, L1Table, RefTable, Table};
-use std::alloc::{AllocError, Global};
+use qcow2_base::{Fault, GuestCluster, GuestOffset, HostCluster, Storage};
+use qcow2_check::{Counters, ImageTables, Use, UseKind, UseSink, load_l1_table, walk_tables};
+use qcow2_metadata::{Header, Table};
+use std::alloc::Global;
 use std::io::Write;
+use std::marker::Model;
 
 /// What a line says of where the header, a table or a refcount block lies.
 #[derive(Clone, Copy)]
@@ -32,7 +33,7 @@ pub(super) enum TableLine {
     /// The L2 table that an L1 entry names, with the range of the disk that it maps and the counter of its
     /// cluster.
     L2Table {
-        l1_index: usize,
+        l1_index: u64,
         cluster: HostCluster,
         start: GuestOffset,
         mapped: u64,
@@ -45,10 +46,31 @@ pub(super) enum TableLine {
     },
     /// The block that a refcount table entry names, and the first cluster that it counts.
     RefcountBlock {
-        index: usize,
+        index: u64,
         cluster: HostCluster,
         counted: HostCluster,
     },
+}
+
+// A sink of the walk over an image with this header: a row for each table, those that map the disk apart from
+// those that count clusters.
+#[derive(Drop)]
+struct Rows<'a> {
+    header: &'a Header,
+    mapping: Vec<TableLine>,
+    counting: Vec<TableLine>,
+}
+
+impl<'a> Model for Rows<'a> {
+    ghost use Rattle.qcow2_session.specs.Commands.Tables.{RowsState};
+
+    ghost Value = { RowsState };
+
+    ghost view = { λ r. record {
+      header = r.header.now;
+      mapping = r.mapping.items;
+      counting = r.counting.items;
+    } };
 }
 
 /// Prints where everything lies in an image with this header, in lines: the header, the L1 table, the L2
@@ -71,160 +93,146 @@ pub fn print_tables<S: Storage, O: Write>(
     ensures last { PrintsLast (run_over S.state O.contents result image.old image.new out.old out.new) }
     ensures unchanged { (S.state image.new).byte_at ≡ (S.state image.old).byte_at }
 {
-    let places = image_places(alloc, image, header)?;
-    print_lines(places.as_slice(), out)
+    let rows = image_rows(alloc, image, header)?;
+    print_rows(&rows, out)
 }
 
-// Where everything lies.
-fn image_places<S: Storage>(
+// The rows of an image with this header.
+fn image_rows<'a, S: Storage>(
     alloc: Global,
     image: &mut S,
-    header: &Header,
-) -> Result<Vec<TableLine>, Fault>
-    ensures { Reads (λ places. places.items) result (image_places header.now)
+    header: &'a Header,
+) -> Result<Rows<'a>, Fault>
+    ensures { Reads (λ rows. rows.mapping ++ rows.counting) result (image_rows header.now)
         (λ fault. IsTableFault (l1_layout header.now) (l1_cluster header.now) fault
         ⊎ IsReftableFault header.now fault)
         (S.state image.old) (S.state image.new) }
 {
     let l1_table = load_l1_table(alloc, image, header)?;
     let mut counters = Counters::new(alloc, image, header)?;
-    let mut places = first_places(alloc, header)?;
-    place_l2_tables(&mut places, &mut counters, image, header, &l1_table)?;
-    places.push(TableLine::RefcountTable {
-        first: header.reftable_offset().cluster(header.cluster_bits()),
-        count: header.reftable_clusters().0,
-    })?;
-    place_blocks(&mut places, header, &counters.into_reftable())?;
-    Ok(places)
-}
-
-// The header and the L1 table.
-fn first_places(alloc: Global, header: &Header) -> Result<Vec<TableLine>, AllocError>
-    ensures { IfOk result (λ places. places.items ≡ first_places header.now) }
-{
-    let cluster_bits = header.cluster_bits();
-    let count = ClusterCount::from_byte_size(8 * header.l1_table_entries() as u64, cluster_bits);
-    let mut places = Vec::with_capacity(alloc, 3)?;
-    places.push(TableLine::Header)?;
-    places.push(TableLine::L1Table {
-        first: header.l1_table_offset().cluster(cluster_bits),
-        count: count.0,
-    })?;
-    Ok(places)
-}
-
-// Adds the L2 tables that L1 entries name.
-fn place_l2_tables<S: Storage>(
-    places: &mut Vec<TableLine>,
-    counters: &mut Counters<'_>,
-    image: &mut S,
-    header: &Header,
-    l1_table: &L1Table,
-) -> Result<(), Fault>
-    requires header { counters.old.header ≡ header.now }
-    requires geometry { l1_table.now.geometry ≡ geometry_of header.now }
-    requires entries { header.now.v2.l1_size ≤ most_l1_entries }
-    requires reader { OnImage (S.state image.old) (λ bytes.
-        IsKeptBlockOf header.now bytes counters.old.block) }
-    ensures reads { Reads (λ done. places.new.items) result
-        (λ bytes. Ok (places.old.items
-        ++ l2_places (image_tables header.now l1_table.now.numbers counters.old.reftable) bytes
-        header.now.v2.l1_size))
-        (λ _. ⊥) (S.state image.old) (S.state image.new) }
-    ensures reader { IsSameButBlock (S.state image.old) counters.old counters.new }
-{
-    for index in 0..header.l1_table_entries() {
-        place_l2_table(places, counters, image, header, l1_table, index)?;
-    }
-    Ok(())
-}
-
-// Adds the L2 table that the L1 entry at an index names, if it names one.
-#[tactic(auto, using(crate::proofs::TablesLemmas::table_starts))]
-fn place_l2_table<S: Storage>(
-    places: &mut Vec<TableLine>,
-    counters: &mut Counters<'_>,
-    image: &mut S,
-    header: &Header,
-    l1_table: &L1Table,
-    index: usize,
-) -> Result<(), Fault>
-    requires header { counters.old.header ≡ header.now }
-    requires geometry { l1_table.now.geometry ≡ geometry_of header.now }
-    requires index { index < most_l1_entries }
-    requires reader { OnImage (S.state image.old) (λ bytes.
-        IsKeptBlockOf header.now bytes counters.old.block) }
-    ensures reads { Reads (λ done. places.new.items) result
-        (λ bytes. Ok (places.old.items
-        ++ l2_place (image_tables header.now l1_table.now.numbers counters.old.reftable) bytes index))
-        (λ _. ⊥) (S.state image.old) (S.state image.new) }
-    ensures reader { IsSameButBlock (S.state image.old) counters.old counters.new }
-{
-    let Some(cluster) = named_cluster(l1_table, index) else {
-        return Ok(());
+    let mut rows = Rows {
+        header,
+        mapping: Vec::new(alloc),
+        counting: Vec::new(alloc),
     };
-    let counter = counters.get(image, cluster)?;
+    let tables = ImageTables {
+        header,
+        l1_table: &l1_table,
+        reftable: counters.reftable(),
+    };
+    walk_tables(&tables, &mut rows)?;
+    read_counters(rows.mapping.as_mut_slice(), &mut counters, image)?;
+    Ok(rows)
+}
+
+impl UseSink for Rows<'_> {
+    ghost takes = { AddsRows };
+
+    fn take(&mut self, used: Use) -> Result<(), Fault> {
+        let (first, count) = (used.clusters.first, used.clusters.count.0);
+        match used.kind {
+            UseKind::Header => self.mapping.push(TableLine::Header)?,
+            UseKind::L1Table => self.mapping.push(TableLine::L1Table { first, count })?,
+            UseKind::L2Table => self.mapping.push(l2_row(self.header, first, used.owner))?,
+            UseKind::RefcountTable => {
+                self.counting
+                    .push(TableLine::RefcountTable { first, count })?
+            }
+            UseKind::RefcountBlock => self
+                .counting
+                .push(block_row(self.header, first, used.owner))?,
+            UseKind::Data | UseKind::Compressed => {}
+        }
+        Ok(())
+    }
+
+    ghost takes_none = { λ s. Prim.grind (arith, append-nil) };
+
+    ghost takes_both = { λ first second a b c one other.
+        Prim.grind (arith, one, other, flat_map-append, append_assoc) };
+}
+
+// The row of an L2 table that begins with a cluster, before its counter is read.
+#[tactic(auto, using(crate::proofs::TablesLemmas::table_starts, crate::proofs::TablesLemmas::mapped_fits))]
+fn l2_row(header: &Header, cluster: HostCluster, l1_index: u64) -> TableLine
+    requires { l1_index < most_l1_entries }
+    ensures { result ≡ l2_row header.now (λ c. 0) cluster l1_index }
+{
     let cluster_bits = header.cluster_bits();
-    let first = GuestCluster::from_l1_l2_indices(index, 0, cluster_bits);
-    places.push(TableLine::L2Table {
-        l1_index: index,
+    let first = GuestCluster::from_l1_l2_indices(l1_index as usize, 0, cluster_bits);
+    TableLine::L2Table {
+        l1_index,
         cluster,
         start: first.offset(cluster_bits),
-        mapped: mapped_bytes(header),
-        counter,
-    })?;
-    Ok(())
-}
-
-// How many bytes of the disk an L2 table maps.
-#[tactic(auto, using(crate::proofs::TablesLemmas::mapped_fits))]
-fn mapped_bytes(header: &Header) -> u64
-    ensures { result ≡ mapped_bytes header.now.v2.cluster_bits }
-{
-    header.l2_entries() as u64 * header.cluster_size() as u64
-}
-
-// Adds the blocks that refcount table entries name.
-#[tactic(auto, using(crate::proofs::TablesLemmas::blocks_more))]
-fn place_blocks(
-    places: &mut Vec<TableLine>,
-    header: &Header,
-    reftable: &RefTable,
-) -> Result<(), Fault>
-    requires geometry { reftable.now.geometry ≡ geometry_of header.now }
-    requires entries { reftable_entries header.now ≤ most_reftable_entries }
-    ensures fault { IsOkUnless result NoMemory }
-    ensures places { OnOk result (places.new.items ≡ places.old.items
-        ++ block_places header.now reftable.now.numbers (reftable_entries header.now)) }
-{
-    for index in 0..header.reftable_entries() {
-        place_block(places, header, reftable, index)?;
+        mapped: header.l2_entries() as u64 * header.cluster_size() as u64,
+        counter: 0,
     }
-    Ok(())
 }
 
-// Adds the block that the refcount table entry at an index names, if it names one.
+// The row of a refcount block.
 #[tactic(auto, using(crate::proofs::TablesLemmas::block_start_fits))]
-fn place_block(
-    places: &mut Vec<TableLine>,
-    header: &Header,
-    reftable: &RefTable,
-    index: usize,
-) -> Result<(), Fault>
-    requires geometry { reftable.now.geometry ≡ geometry_of header.now }
-    requires index { index < most_reftable_entries }
-    ensures fault { IsOkUnless result NoMemory }
-    ensures places { OnOk result (places.new.items ≡ places.old.items
-        ++ block_place header.now reftable.now.numbers index) }
+fn block_row(header: &Header, cluster: HostCluster, index: u64) -> TableLine
+    requires { index < most_reftable_entries }
+    ensures { result ≡ block_row header.now cluster index }
 {
-    if let Some(cluster) = named_block(reftable, index) {
-        places.push(TableLine::RefcountBlock {
-            index,
-            cluster,
-            counted: HostCluster::from_ref_indices(index, 0, header.rb_bits()),
-        })?;
+    TableLine::RefcountBlock {
+        index,
+        cluster,
+        counted: HostCluster::from_ref_indices(index as usize, 0, header.rb_bits()),
+    }
+}
+
+// Reads the counters of the L2 tables' clusters into rows.
+fn read_counters<S: Storage>(
+    rows: &mut [TableLine],
+    counters: &mut Counters<'_>,
+    image: &mut S,
+) -> Result<(), Fault>
+    requires { OnImage (S.state image.old) (λ bytes.
+        IsKeptBlockOf counters.old.header bytes counters.old.block) }
+    ensures reads { Reads (λ done. rows.new) result (λ bytes. Ok (map
+        (counted_row (counter_of counters.old.header counters.old.reftable bytes)) rows.old))
+        (λ _. ⊥) (S.state image.old) (S.state image.new) }
+    ensures reader { IsSameButBlock (S.state image.old) counters.old counters.new }
+{
+    for row in rows.iter_mut() {
+        read_counter(row, counters, image)?;
     }
     Ok(())
+}
+
+// Reads the counter of the cluster into a row, if it is an L2 table's.
+fn read_counter<S: Storage>(
+    row: &mut TableLine,
+    counters: &mut Counters<'_>,
+    image: &mut S,
+) -> Result<(), Fault>
+    requires { OnImage (S.state image.old) (λ bytes.
+        IsKeptBlockOf counters.old.header bytes counters.old.block) }
+    ensures reads { Reads (λ done. row.new) result (λ bytes. Ok
+        (counted_row (counter_of counters.old.header counters.old.reftable bytes) row.old))
+        (λ _. ⊥) (S.state image.old) (S.state image.new) }
+    ensures reader { IsSameButBlock (S.state image.old) counters.old counters.new }
+{
+    if let TableLine::L2Table {
+        cluster,
+        counter,
+        ..
+    } = row
+    {
+        *counter = counters.get(image, *cluster)?;
+    }
+    Ok(())
+}
+
+// Prints the rows: those that map the disk, and then those that count clusters.
+#[tactic(auto, using(crate::proofs::TablesLemmas::rows_printed))]
+fn print_rows<O: Write>(rows: &Rows<'_>, out: &mut O) -> Result<(), Fault>
+    ensures { PrintsText result (O.contents out.old) (O.contents out.new)
+        (flat_map table_line (rows.now.mapping ++ rows.now.counting)) }
+{
+    print_lines(rows.mapping.as_slice(), out)?;
+    print_lines(rows.counting.as_slice(), out)
 }
 
 impl ToLine for TableLine {
@@ -250,7 +258,7 @@ impl ToLine for TableLine {
                 line.prepend(" ");
                 prepend_range(&mut line, *start, *mapped);
                 line.prepend(" ");
-                prepend_pair(&mut line, *l1_index as u64, cluster.0);
+                prepend_pair(&mut line, *l1_index, cluster.0);
                 line.prepend("l2 ");
             }
             TableLine::RefcountTable { first, count } => {
@@ -264,7 +272,7 @@ impl ToLine for TableLine {
             } => {
                 line.prepend_decimal(counted.0);
                 line.prepend(" ");
-                prepend_pair(&mut line, *index as u64, cluster.0);
+                prepend_pair(&mut line, *index, cluster.0);
                 line.prepend("refcount-block ");
             }
         }
