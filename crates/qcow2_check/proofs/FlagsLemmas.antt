@@ -7,7 +7,7 @@ use Rattle.std.proofs.lemmas.Nat.{mul-add-lt, mul-lt}
 use Rattle.qcow2_base.specs.Storage.{Image, OnImage, StorageState}
 use Rattle.qcow2_base.specs.declared.fault.Fault.{Fault}
 use Rattle.qcow2_base.specs.declared.types.HostCluster.{HostCluster}
-use Rattle.qcow2_metadata.specs.Header.{Geometry, HeaderRecord, geometry_of}
+use Rattle.qcow2_metadata.specs.Header.{Geometry, HeaderRecord, geometry, geometry_of}
 use Rattle.qcow2_metadata.specs.Results.{Answers}
 use Rattle.qcow2_metadata.specs.Table.{IsContentFault, TableState, l2_entries, loaded_l2_table}
 use Rattle.qcow2_check.specs.Findings.{IsLaterFault}
@@ -47,64 +47,69 @@ later_fault header l1 index cluster fault old now below named content loads same
 )
 
 -- the wrong flags from an entry of a table on: that of the entry, and those from the next
-flags_here : (header : HeaderRecord) (reftable : List ℕ) (image : Image) (index : ℕ) (numbers : List ℕ) (i : ℕ) → i < length numbers
-    → l2_flags_from header reftable image index numbers i
-    ≡ option_to_list (l2_flag header reftable image (index * l2_entries header.v2.cluster_bits + i) (slice_index numbers i)) ++ l2_flags_from header reftable image index numbers (i + 1)
-flags_here header reftable image index numbers i below =
-    let guest = index * l2_entries header.v2.cluster_bits in
+flags_here : (g : Geometry) (counter : ℕ → ℕ) (index : ℕ) (numbers : List ℕ) (i : ℕ) → i < length numbers
+    → l2_flags_from g counter index numbers i
+    ≡ option_to_list (l2_flag g counter (index * l2_entries g.cluster_bits + i) (slice_index numbers i)) ++ l2_flags_from g counter index numbers (i + 1)
+flags_here g counter index numbers i below =
+    let guest = index * l2_entries g.cluster_bits in
     let one_more : suc i ≡ i + 1 = omega arith in
     let next : guest + i + 1 ≡ guest + (i + 1) = omega arith in
-    ap (λ vs. l2_flags header reftable image (guest + i) vs) (drop-cons numbers i 0 below)
-    ∙ ap (λ from. option_to_list (l2_flag header reftable image (guest + i) (slice_index numbers i)) ++ l2_flags header reftable image from (drop (suc i) numbers)) next
-    ∙ ap (λ n. option_to_list (l2_flag header reftable image (guest + i) (slice_index numbers i)) ++ l2_flags header reftable image (guest + (i + 1)) (drop n numbers)) one_more
+    ap (λ vs. l2_flags g counter (guest + i) vs) (drop-cons numbers i 0 below)
+    ∙ ap (λ from. option_to_list (l2_flag g counter (guest + i) (slice_index numbers i)) ++ l2_flags g counter from (drop (suc i) numbers)) next
+    ∙ ap (λ n. option_to_list (l2_flag g counter (guest + i) (slice_index numbers i)) ++ l2_flags g counter (guest + (i + 1)) (drop n numbers)) one_more
+
+-- the geometry of tables without an external data file has no more than its cluster bits
+pub inside_only : (g : Geometry) → g.external_data_file ≡ false → geometry g.cluster_bits false ≡ g
+inside_only g inside = rw (← inside) refl
 
 -- an entry 0 has no flag
-no_flag : (header : HeaderRecord) (reftable : List ℕ) (image : Image) (guest : ℕ) → l2_flag header reftable image guest 0 ≡ None
-no_flag header reftable image guest = by_file (geometry_of header).external_data_file refl
+no_flag : (g : Geometry) (counter : ℕ → ℕ) (guest : ℕ) → l2_flag g counter guest 0 ≡ None
+no_flag g counter guest = by_file g.external_data_file refl
   where
-    by_file : (external : Bool) → (geometry_of header).external_data_file ≡ external → l2_flag header reftable image guest 0 ≡ None
+    by_file : (external : Bool) → g.external_data_file ≡ external → l2_flag g counter guest 0 ≡ None
     by_file true is = grind (arith, nat_tests, is)
     by_file false is = grind (arith, nat_tests, is)
 
 -- an entry 0 has none in whatever image
-pub nothing_has_no_flag : (counters : CountersState) → HasNoFlag counters 0
-nothing_has_no_flag counters = λ image guest kept. no_flag counters.header counters.reftable image guest
+pub nothing_has_no_flag : (g : Geometry) (counters : CountersState) → HasNoFlag g counters 0
+nothing_has_no_flag g counters = λ image guest kept. no_flag g (counter_of counters.header counters.reftable image) guest
 
 -- a standard entry has none whose cluster has the counter 1, if it says so
-pub sole_is_right : (counters : CountersState) (v : ℕ) → (geometry_of counters.header).external_data_file ≡ false → is_copied v ≡ true
+pub sole_is_right : (g : Geometry) (counters : CountersState) (v : ℕ) → g.external_data_file ≡ false → is_copied v ≡ true
     → ((image : Image) → IsKeptBlockOf counters.header image counters.block
-    → counter_of counters.header counters.reftable image (offset_field v / 2 ^ counters.header.v2.cluster_bits) ≡ 1)
-    → HasNoFlag counters v
-sole_is_right counters v inside copied sole = λ image guest kept. grind (arith, nat_tests, inside, copied, sole image kept)
+    → counter_of counters.header counters.reftable image (offset_field v / 2 ^ g.cluster_bits) ≡ 1)
+    → HasNoFlag g counters v
+sole_is_right g counters v inside copied sole = λ image guest kept. grind (arith, nat_tests, inside, copied, sole image kept)
 
 -- an entry without a cluster has none either
-pub other_is_right : (counters : CountersState) (v : ℕ) → flagged_cluster (geometry_of counters.header) v ≡ None → HasNoFlag counters v
-other_is_right counters v none = λ image guest kept. grind (arith, nat_tests, none)
+pub other_is_right : (g : Geometry) (counters : CountersState) (v : ℕ) → flagged_cluster g v ≡ None → HasNoFlag g counters v
+other_is_right g counters v none = λ image guest kept. grind (arith, nat_tests, none)
 
 -- where several entries have none, the same are left after them
-no_flags : (counters : CountersState) (image : Image) (index : ℕ) (numbers : List ℕ) (i k : ℕ) → i + k ≤ length numbers
+no_flags : (g : Geometry) (counters : CountersState) (image : Image) (index : ℕ) (numbers : List ℕ) (i k : ℕ) → i + k ≤ length numbers
     → IsKeptBlockOf counters.header image counters.block
-    → ((j : ℕ) → j < k → HasNoFlag counters (slice_index numbers (i + j)))
-    → l2_flags_from counters.header counters.reftable image index numbers i
-    ≡ l2_flags_from counters.header counters.reftable image index numbers (i + k)
-no_flags counters image index numbers i zero within kept none = rw (add-zero i) refl
-no_flags counters image index numbers i (suc k) within kept none =
-    let guest = index * l2_entries counters.header.v2.cluster_bits + (i + k) in
+    → ((j : ℕ) → j < k → HasNoFlag g counters (slice_index numbers (i + j)))
+    → l2_flags_from g (counter_of counters.header counters.reftable image) index numbers i
+    ≡ l2_flags_from g (counter_of counters.header counters.reftable image) index numbers (i + k)
+no_flags g counters image index numbers i zero within kept none = rw (add-zero i) refl
+no_flags g counters image index numbers i (suc k) within kept none =
+    let guest = index * l2_entries g.cluster_bits + (i + k) in
+    let counter = counter_of counters.header counters.reftable image in
     let sum : i + suc k ≡ i + k + 1 = omega arith in
-    let last : l2_flag counters.header counters.reftable image guest (slice_index numbers (i + k)) ≡ None = none k (omega arith) image guest kept in
-    no_flags counters image index numbers i k (omega (arith, within)) kept (λ j below. none j (omega (arith, below)))
-    ∙ flags_here counters.header counters.reftable image index numbers (i + k) (omega (arith, within)) ∙ rw (last, sum) refl
+    let last : l2_flag g counter guest (slice_index numbers (i + k)) ≡ None = none k (omega arith) image guest kept in
+    no_flags g counters image index numbers i k (omega (arith, within)) kept (λ j below. none j (omega (arith, below)))
+    ∙ flags_here g counter index numbers (i + k) (omega (arith, within)) ∙ rw (last, sum) refl
 
 -- the same of a reader whose counters are those of an image
-pub group_has_no_flags : (state : StorageState) (old counters : CountersState) (index : ℕ) (numbers : List ℕ) (i k : ℕ)
+pub group_has_no_flags : (g : Geometry) (state : StorageState) (old counters : CountersState) (index : ℕ) (numbers : List ℕ) (i k : ℕ)
     → IsSameButBlock state old counters → i + k ≤ length numbers
-    → ((j : ℕ) → j < k → HasNoFlag counters (slice_index numbers (i + j)))
-    → OnImage state (λ bytes. l2_flags_from old.header old.reftable bytes index numbers i
-    ≡ l2_flags_from old.header old.reftable bytes index numbers (i + k))
-group_has_no_flags state old counters index numbers i k reader within none = λ told.
+    → ((j : ℕ) → j < k → HasNoFlag g counters (slice_index numbers (i + j)))
+    → OnImage state (λ bytes. l2_flags_from g (counter_of old.header old.reftable bytes) index numbers i
+    ≡ l2_flags_from g (counter_of old.header old.reftable bytes) index numbers (i + k))
+group_has_no_flags g state old counters index numbers i k reader within none = λ told.
     let header : counters.header ≡ old.header = ap (λ c. c.header) reader.same in
     let reftable : counters.reftable ≡ old.reftable = ap (λ c. c.reftable) reader.same in
-    rw (← header, ← reftable) (no_flags counters state.byte_at index numbers i k within (reader.kept told) none)
+    rw (← header, ← reftable) (no_flags g counters state.byte_at index numbers i k within (reader.kept told) none)
 
 -- the entry of a table after some that are copied ones of clusters that follow one another, if it is the next of them
 pub copied_more : (numbers : List ℕ) (first cb start k cluster : ℕ) (before copied : Bool)

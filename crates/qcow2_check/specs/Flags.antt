@@ -42,40 +42,37 @@ flagged_cluster g v = if is_compressed v then None
     else option_map (λ offset. record { 0 = offset.0 / 2 ^ g.cluster_bits }) (host_offset g.external_data_file v)
 
 -- the counter of a cluster of guest data, which has none in an external data file
-abbrev pub data_counter : HeaderRecord → List ℕ → Image → HostCluster → Option ℕ
-data_counter header reftable image cluster = if (geometry_of header).external_data_file then None
-    else Some (counter_of header reftable image cluster.0)
+abbrev pub data_counter : Geometry → (ℕ → ℕ) → HostCluster → Option ℕ
+data_counter g counter cluster = if g.external_data_file then None else Some (counter cluster.0)
 
--- the flag of the L2 entry of a guest cluster, where it names a cluster and the flag is wrong
-abbrev pub l2_flag : HeaderRecord → List ℕ → Image → ℕ → ℕ → Option WrongFlag
-l2_flag header reftable image guest v = elim (flagged_cluster (geometry_of header) v) [
+-- the flag of the L2 entry of a guest cluster, where it names a cluster and the flag is wrong by the counter of each cluster
+abbrev pub l2_flag : Geometry → (ℕ → ℕ) → ℕ → ℕ → Option WrongFlag
+l2_flag g counter guest v = elim (flagged_cluster g v) [
   | None ↦ None
-  | Some cluster ↦ wrong_flag (Offset (record { 0 = guest * 2 ^ header.v2.cluster_bits })) cluster
-      (data_counter header reftable image cluster) (is_copied v)
+  | Some cluster ↦ wrong_flag (Offset (record { 0 = guest * 2 ^ g.cluster_bits })) cluster (data_counter g counter cluster) (is_copied v)
 ]
 
--- an L2 entry has no wrong flag in an image that counters are of, of whatever guest cluster it is
-abbrev pub HasNoFlag : CountersState → ℕ → Type 0
-HasNoFlag counters v = (image : Image) (guest : ℕ) → IsKeptBlockOf counters.header image counters.block →
-    l2_flag counters.header counters.reftable image guest v ≡ None
+-- an entry of an L2 table has no wrong flag in an image that counters are of, of whatever guest cluster it is
+abbrev pub HasNoFlag : Geometry → CountersState → ℕ → Type 0
+HasNoFlag g counters v = (image : Image) (guest : ℕ) → IsKeptBlockOf counters.header image counters.block →
+    l2_flag g (counter_of counters.header counters.reftable image) guest v ≡ None
 
 -- the wrong flags of L2 entries, from a guest cluster on
-abbrev pub l2_flags : HeaderRecord → List ℕ → Image → ℕ → List ℕ → List WrongFlag
-l2_flags header reftable image guest [] = []
-l2_flags header reftable image guest (v ∷ vs) =
-    option_to_list (l2_flag header reftable image guest v) ++ l2_flags header reftable image (guest + 1) vs
+abbrev pub l2_flags : Geometry → (ℕ → ℕ) → ℕ → List ℕ → List WrongFlag
+l2_flags g counter guest [] = []
+l2_flags g counter guest (v ∷ vs) = option_to_list (l2_flag g counter guest v) ++ l2_flags g counter (guest + 1) vs
 
 -- the wrong flags of the L2 table of the L1 entry at an index, from the entry at a position on
-abbrev pub l2_flags_from : HeaderRecord → List ℕ → Image → ℕ → List ℕ → ℕ → List WrongFlag
-l2_flags_from header reftable image index numbers position =
-    l2_flags header reftable image (index * l2_entries header.v2.cluster_bits + position) (drop position numbers)
+abbrev pub l2_flags_from : Geometry → (ℕ → ℕ) → ℕ → List ℕ → ℕ → List WrongFlag
+l2_flags_from g counter index numbers position =
+    l2_flags g counter (index * l2_entries g.cluster_bits + position) (drop position numbers)
 
 -- the wrong flags of the L2 table that the L1 entry at an index names, if it names one
 abbrev pub table_flags : HeaderRecord → List ℕ → Image → ℕ → ℕ → List WrongFlag
 table_flags header reftable image index v = elim (named_cluster header.v2.cluster_bits v) [
   | None ↦ []
-  | Some cluster ↦
-      l2_flags_from header reftable image index (numbers_at (l2_layout (geometry_of header)) cluster image) 0
+  | Some cluster ↦ let g = geometry_of header in
+      l2_flags_from g (counter_of header reftable image) index (numbers_at (l2_layout g) cluster image) 0
 ]
 
 -- the wrong flags of L1 entries from an index on, each followed by those of its L2 table
@@ -108,7 +105,8 @@ flags_left reader image = elim reader.table [
   | None ↦
       l1_flags reader.header reader.counters.reftable image reader.index (drop reader.index reader.l1)
   | Some table ↦
-      l2_flags_from reader.header reader.counters.reftable image reader.index table.numbers reader.position
+      l2_flags_from (geometry_of reader.header) (counter_of reader.header reader.counters.reftable image) reader.index
+      table.numbers reader.position
       ++ l1_flags reader.header reader.counters.reftable image (reader.index + 1) (drop (reader.index + 1) reader.l1)
 ]
 

@@ -109,7 +109,7 @@ fn count_single(tally: &mut Tally, entry: L2Entry, cluster_bits: u32) -> bool
     tally.try_add_if(first, TallyKind::Guest, refers(entry))
 }
 
-/// The entry at an index of a table that has it. So the built program tests no index here.
+/// The entry at an index within the table, without a bounds check in the built program.
 #[inline(always)]
 pub(crate) fn entry_at(table: &L2Table, index: usize) -> L2Entry
     requires { index < length table.now.numbers }
@@ -119,7 +119,7 @@ pub(crate) fn entry_at(table: &L2Table, index: usize) -> L2Entry
     table.get_ref(index).unwrap().get()
 }
 
-/// Whether the entries from an index on, as many as are looked at together, are all the entry 0.
+/// Whether the entries from an index on, as many as are looked at together, are all 0.
 #[inline(always)]
 pub(crate) fn are_unallocated(table: &L2Table, first: usize) -> bool
     requires { first + 16 ≤ length table.now.numbers }
@@ -196,8 +196,8 @@ impl UseSink for Tally {
         Prim.grind (arith, one, other, map-append, fold-append) };
 }
 
-/// How many uses an image has of one cluster at most: one for each entry of the L2 tables that are named,
-/// of these themselves, and of the refcount table, and three of its header.
+/// The most uses that an image can have of one cluster: one for each L2 table that is named and for each of
+/// its entries, one for each entry of the refcount table, and three of the header.
 pub(crate) fn most_uses(tables: &ImageTables<'_>) -> u64 {
     let l1_table = tables.l1_table;
     let mut named = 0u64;

@@ -74,10 +74,12 @@ pub struct Findings<'a> {
 }
 
 impl<'a> Model for Findings<'a> {
-    ghost use Rattle.std.specs.Prelude.{◌≡◌, ◌<◌, ◌≤◌, IfSome, None, length};
+    ghost use Rattle.std.specs.Prelude.{◌≡◌, ◌<◌, ◌≤◌, false, IfSome, None, Some, length};
     ghost use Rattle.qcow2_base.specs.Format.{max_file_length, most_l1_entries};
     ghost use Rattle.qcow2_metadata.specs.Header.{geometry_of};
+    ghost use Rattle.qcow2_metadata.specs.Placed.{place_fault};
     ghost use Rattle.qcow2_check.specs.Findings.{FindingsState};
+    ghost use Rattle.qcow2_check.specs.NamedTables.{l1_cluster, l1_layout};
 
     ghost Value = { FindingsState };
 
@@ -91,6 +93,10 @@ impl<'a> Model for Findings<'a> {
 
     ghost invariant = { λ f. (f.l1_table.geometry ≡ geometry_of f.header.now)
         × (length f.l1_table.numbers ≤ most_l1_entries)
+        × (length f.l1_table.numbers ≡ f.header.now.v2.l1_size)
+        × (f.l1_table.cluster ≡ Some (l1_cluster f.header.now))
+        × (f.l1_table.modified ≡ false)
+        × (place_fault (l1_layout f.header.now) (l1_cluster f.header.now) ≡ None)
         × (f.counters.header ≡ f.header.now)
         × (f.position ≤ max_file_length)
         × IfSome f.tally (λ tally. (tally.first ≤ f.position) × (f.position ≤ tally.end)
@@ -160,14 +166,16 @@ fn is_right(counter: u64, cell: u64) -> bool
 }
 
 impl<'a> Findings<'a> {
-    ghost use Rattle.std.specs.Prelude.{◌≡◌, ◌<◌, ◌≤◌, Ok, Err, None, IfErr, IfOk, IfSome, IsSome, IsSomeAnd, IsTrue, OnOk, is_some, length, ◌+◌, ◌↔◌};
+    ghost use Rattle.std.specs.Prelude.{◌≡◌, ◌<◌, ◌≤◌, Ok, Err, None, Some, false, IfErr, IfOk, IfSome, IsSome, IsSomeAnd, IsTrue, OnOk, is_some, length, ◌+◌, ◌↔◌};
     ghost use Rattle.qcow2_base.specs.Format.{max_file_length, most_l1_entries, most_reftable_entries};
     ghost use Rattle.qcow2_base.specs.Storage.{Image, OnImage, OnlyReads};
     ghost use Rattle.qcow2_check.specs.Counters.{block_of_cluster, blocks_fault, counter_of};
     ghost use Rattle.qcow2_base.specs.declared.fault.Fault.TheVariants.{Uncounted};
     ghost use Rattle.qcow2_metadata.specs.Header.{uncounted_part};
+    ghost use Rattle.qcow2_metadata.specs.Placed.{place_fault};
     ghost use Rattle.qcow2_check.specs.Findings.{AreRight, GoesPast, IsCheckFault, IsFindingsOf, IsLaterFault, MovesFindings, PassesFinding, TakesFinding, checked_tables, finding_at, findings_left, is_wrong, tables_of};
     ghost use Rattle.qcow2_check.specs.Flags.{IsFlagsOf, flags_left, image_flags};
+    ghost use Rattle.qcow2_check.specs.NamedTables.{l1_cluster, l1_layout};
 
     /// A reader of the findings of an image with this header, before the first of them. Reads its tables, and
     /// counts the uses of the first clusters.
@@ -248,17 +256,21 @@ impl<'a> Findings<'a> {
         Flags::new(self.header, self.l1_table, self.counters)
     }
 
-    /// The L1 table and the refcount table of the same image. All other memory is given back.
-    pub fn into_tables(self) -> (L1Table, RefTable)
+    /// The L1 table and the refcount table of the same image, and the uses that were counted last, if they
+    /// are kept. All other memory is given back.
+    pub fn into_parts(self) -> (L1Table, RefTable, Option<Tally>)
         ensures numbers { (result.0.numbers ≡ self.entry.l1)
-            × (result.1.numbers ≡ self.entry.counters.reftable) }
+            × (result.1.numbers ≡ self.entry.counters.reftable) × (result.2 ≡ self.entry.tally) }
         ensures geometry { (result.0.geometry ≡ geometry_of self.entry.header)
             × (result.1.geometry ≡ geometry_of self.entry.header) }
         ensures entries { (length self.entry.l1 ≤ most_l1_entries)
             × (length self.entry.counters.reftable ≤ most_reftable_entries) }
         ensures placed { blocks_fault self.entry.header self.entry.counters.reftable ≡ None }
+        ensures l1_table { (length result.0.numbers ≡ self.entry.header.v2.l1_size)
+            × (result.0.cluster ≡ Some (l1_cluster self.entry.header)) × (result.0.modified ≡ false)
+            × (place_fault (l1_layout self.entry.header) (l1_cluster self.entry.header) ≡ None) }
     {
-        (self.l1_table, self.counters.into_reftable())
+        (self.l1_table, self.counters.into_reftable(), self.tally)
     }
 
     /// The header of the image.

@@ -5,10 +5,10 @@ ghost use Rattle.qcow2_base.specs.Format.{most_l1_entries};
 ghost use Rattle.qcow2_base.specs.Storage.{OnImage, OnlyReads};
 ghost use Rattle.qcow2_base.specs.Types.{IsClusterBits};
 ghost use Rattle.qcow2_metadata.specs.Entries.{is_copied, offset_field};
-ghost use Rattle.qcow2_metadata.specs.Header.{geometry, geometry_of};
+ghost use Rattle.qcow2_metadata.specs.Header.{geometry};
 ghost use Rattle.qcow2_metadata.specs.Results.{IsFromOutside, Reads};
 ghost use Rattle.qcow2_metadata.specs.Table.{l2_entries};
-ghost use Rattle.qcow2_check.specs.Counters.{IsKeptBlockOf, IsSameButBlock, counters_each};
+ghost use Rattle.qcow2_check.specs.Counters.{IsKeptBlockOf, IsSameButBlock, counter_of, counters_each};
 ghost use Rattle.qcow2_check.specs.Flags.{HasNoFlag, TakesFlag, data_counter, flagged_cluster, l2_flag, l2_flags_from, wrong_flag};
 
 use crate::counters::Counters;
@@ -119,23 +119,23 @@ pub fn flagged_cluster(
     Some(offset.cluster(cluster_bits))
 }
 
-// The counter of a cluster of guest data, which has none in an external data file.
+// The counter of a cluster of guest data that an L2 table names, which has none in an external data file.
 #[inline]
 fn data_counter<S: Storage>(
     counters: &mut Counters<'_>,
     image: &mut S,
+    table: &L2Table,
     cluster: HostCluster,
-    external_data_file: bool,
 ) -> Result<Option<u64>, Fault>
-    requires external { external_data_file ≡ (geometry_of counters.old.header).external_data_file }
     requires reader { OnImage (S.state image.old) (λ bytes.
         IsKeptBlockOf counters.old.header bytes counters.old.block) }
     ensures reads { Reads (λ counter. counter) result
-        (λ bytes. Ok (data_counter counters.old.header counters.old.reftable bytes cluster))
+        (λ bytes. Ok (data_counter table.now.geometry
+        (counter_of counters.old.header counters.old.reftable bytes) cluster))
         (λ _. ⊥) (S.state image.old) (S.state image.new) }
     ensures reader { IsSameButBlock (S.state image.old) counters.old counters.new }
 {
-    if external_data_file {
+    if table.external_data_file() {
         return Ok(None);
     }
     Ok(Some(counters.get(image, cluster)?))
@@ -151,15 +151,15 @@ fn entry_flag<S: Storage>(
     l1_index: usize,
     index: usize,
 ) -> Result<Option<WrongFlag>, Fault>
-    requires table { table.now.geometry ≡ geometry_of counters.old.header }
     requires l1_index { l1_index < most_l1_entries }
     requires index { index < l2_entries table.now.geometry.cluster_bits }
     requires reader { OnImage (S.state image.old) (λ bytes.
         IsKeptBlockOf counters.old.header bytes counters.old.block) }
     ensures reads { let guest = l1_index * l2_entries table.now.geometry.cluster_bits + index in
+        let v = slice_index table.now.numbers index in
         Reads (λ flag. flag) result
-        (λ bytes. Ok (l2_flag counters.old.header counters.old.reftable bytes guest
-        (slice_index table.now.numbers index)))
+        (λ bytes. Ok (l2_flag table.now.geometry
+        (counter_of counters.old.header counters.old.reftable bytes) guest v))
         (λ _. ⊥) (S.state image.old) (S.state image.new) }
     ensures reader { IsSameButBlock (S.state image.old) counters.old counters.new }
 {
@@ -168,7 +168,7 @@ fn entry_flag<S: Storage>(
     let Some(cluster) = flagged_cluster(entry, cluster_bits, external) else {
         return Ok(None);
     };
-    let counter = data_counter(counters, image, cluster, external)?;
+    let counter = data_counter(counters, image, table, cluster)?;
     let guest_cluster = GuestCluster::from_l1_l2_indices(l1_index, index, cluster_bits);
     let place = FlagPlace::Offset(guest_cluster.offset(cluster_bits));
     Ok(wrong_flag(place, cluster, counter, entry.is_copied()))
@@ -207,11 +207,9 @@ fn clusters_at(table: &L2Table, first: usize) -> [u64; TOGETHER]
 #[tactic(auto, using(crate::proofs::FlagsLemmas::sole_is_right, crate::proofs::FlagsLemmas::other_is_right))]
 fn is_right(counters: &Counters<'_>, entry: L2Entry, cluster_bits: u32, kept: u64) -> bool
     requires bits { IsClusterBits cluster_bits }
-    requires same { cluster_bits ≡ counters.now.header.v2.cluster_bits }
     requires kept { IfSome counters.now.block (λ block. kept ≡ slice_index block.numbers
         (offset_field entry / 2 ^ cluster_bits % counters_each counters.now.header)) }
-    ensures { IsTrue result → (geometry_of counters.now.header).external_data_file ≡ false →
-        HasNoFlag counters.now entry }
+    ensures { IsTrue result → HasNoFlag (geometry cluster_bits false) counters.now entry }
 {
     let has_none = entry.is_compressed() | (field(entry.to_plain(), 9, 47) == 0);
     let is_sole = counters.is_kept_sole(cluster_at(entry, cluster_bits), kept);
@@ -222,10 +220,9 @@ fn is_right(counters: &Counters<'_>, entry: L2Entry, cluster_bits: u32, kept: u6
 // which of them have a flag can't be guessed.
 #[inline(always)]
 fn are_right(counters: &Counters<'_>, table: &L2Table, first: usize) -> bool
-    requires table { table.now.geometry ≡ geometry_of counters.now.header }
     requires group { first + 16 ≤ length table.now.numbers }
-    ensures { IsTrue result → (geometry_of counters.now.header).external_data_file ≡ false →
-        (k : ℕ) → k < 16 → HasNoFlag counters.now (slice_index table.now.numbers (first + k)) }
+    ensures { IsTrue result → table.now.geometry.external_data_file ≡ false → (k : ℕ) → k < 16 →
+        HasNoFlag table.now.geometry counters.now (slice_index table.now.numbers (first + k)) }
 {
     prove!(first < table.entries());
     let cluster_bits = table.cluster_bits();
@@ -261,10 +258,9 @@ fn are_copied_from(table: &L2Table, first: usize, start: HostCluster) -> bool
 #[inline(always)]
 #[tactic(auto, using(crate::proofs::FlagsLemmas::sole_is_right))]
 fn are_right_in_a_row(counters: &Counters<'_>, table: &L2Table, first: usize) -> bool
-    requires table { table.now.geometry ≡ geometry_of counters.now.header }
     requires group { first + 16 ≤ length table.now.numbers }
-    ensures { IsTrue result → (geometry_of counters.now.header).external_data_file ≡ false →
-        (k : ℕ) → k < 16 → HasNoFlag counters.now (slice_index table.now.numbers (first + k)) }
+    ensures { IsTrue result → table.now.geometry.external_data_file ≡ false → (k : ℕ) → k < 16 →
+        HasNoFlag table.now.geometry counters.now (slice_index table.now.numbers (first + k)) }
 {
     prove!(first < table.entries());
     let cluster_bits = table.cluster_bits();
@@ -281,10 +277,10 @@ fn are_right_in_a_row(counters: &Counters<'_>, table: &L2Table, first: usize) ->
 #[inline]
 #[tactic(auto, using(crate::proofs::FlagsLemmas::nothing_has_no_flag))]
 fn starts_right(counters: &Counters<'_>, table: &L2Table, index: usize) -> bool
-    requires table { table.now.geometry ≡ geometry_of counters.now.header }
     requires index { index < length table.now.numbers }
     ensures { IsTrue result → (index + 16 ≤ length table.now.numbers)
-        × ((k : ℕ) → k < 16 → HasNoFlag counters.now (slice_index table.now.numbers (index + k))) }
+        × ((k : ℕ) → k < 16 →
+        HasNoFlag table.now.geometry counters.now (slice_index table.now.numbers (index + k))) }
 {
     if index % TOGETHER != 0 || table.entries() - index < TOGETHER {
         return false;
@@ -305,13 +301,13 @@ fn next_in_table<S: Storage>(
     l1_index: usize,
     position: &mut usize,
 ) -> Result<Option<WrongFlag>, Fault>
-    requires table { (table.now.geometry ≡ geometry_of counters.old.header)
-        × (length table.now.numbers ≡ l2_entries table.now.geometry.cluster_bits) }
+    requires table { length table.now.numbers ≡ l2_entries table.now.geometry.cluster_bits }
     requires l1_index { l1_index < most_l1_entries }
     requires reader { OnImage (S.state image.old) (λ bytes.
         IsKeptBlockOf counters.old.header bytes counters.old.block) }
     ensures flag { OnImage (S.state image.old) (λ bytes.
-        let left = l2_flags_from counters.old.header counters.old.reftable bytes l1_index table.now.numbers in
+        let counter = counter_of counters.old.header counters.old.reftable bytes in
+        let left = l2_flags_from table.now.geometry counter l1_index table.now.numbers in
         TakesFlag (left position.old) (left position.new) result) }
     ensures reader { IsSameButBlock (S.state image.old) counters.old counters.new }
     ensures fault { IfErr result IsFromOutside }

@@ -1,4 +1,4 @@
-//! How much a check finds of each kind, and what is to be thought of it.
+//! How many clusters and flags a check finds of each kind, and the verdict on them.
 
 ghost use Rattle.std.specs.Prelude.{◌≡◌, ◌+◌, if◌then◌else◌, IfErr, IfOk, IsOkUnless};
 ghost use Rattle.qcow2_base.specs.Storage.{OnImage, OnlyReads};
@@ -58,7 +58,7 @@ impl Totals {
         }
     }
 
-    /// These, and that many clusters, of each of which the same is found. Fails where a sum doesn't fit 64
+    /// These totals with that many clusters more, each with this finding. Fails where a sum doesn't fit 64
     /// bits, by 35.
     pub fn with_clusters(self, finding: &Finding, count: u64) -> Result<Totals, Fault>
         ensures fault { IsOkUnless result NoMemory }
@@ -72,7 +72,7 @@ impl Totals {
         })
     }
 
-    /// These, and a flag. Fails where a sum doesn't fit 64 bits, by 35.
+    /// These totals with a flag more. Fails where a sum doesn't fit 64 bits, by 35.
     pub fn with_flag(self, flag: &WrongFlag) -> Result<Totals, Fault>
         ensures fault { IsOkUnless result NoMemory }
         ensures totals { IfOk result (λ totals. totals ≡ with_flag self flag.now) }
@@ -84,7 +84,7 @@ impl Totals {
         })
     }
 
-    /// These, and the wrong flags that a reader comes to yet.
+    /// These totals with all wrong flags that a reader has left.
     ///
     /// Fails where the storage does or memory runs out. Changes no byte.
     pub fn with_flags_left<S: Storage>(
@@ -125,7 +125,7 @@ impl Totals {
         self.missing == 0 && self.shared == 0 && self.false_flags == 0
     }
 
-    /// What is to be thought of an image of which this was found, whatever its header says.
+    /// The verdict on what was found, whatever the image's header says.
     pub fn found_verdict(&self) -> Verdict
         ensures { result ≡ verdict_of self.now }
     {
@@ -138,8 +138,8 @@ impl Totals {
         }
     }
 
-    /// What is to be thought of an image with this header. An L1 table that is too short for the disk hides
-    /// references, so what seems to be leaked may be in use.
+    /// The verdict on an image with this header. An L1 table that is too short for the disk hides references,
+    /// so clusters that seem to be leaked may be in use.
     pub fn verdict(&self, header: &Header) -> Verdict
         ensures { result ≡ verdict_in header.now self.now }
     {

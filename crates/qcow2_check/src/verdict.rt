@@ -1,4 +1,4 @@
-//! What a check thinks of an image as a whole, and the status for it.
+//! The verdict of a check on a whole image, and its status.
 
 ghost use Rattle.std.specs.Prelude.{◌≡◌};
 ghost use Rattle.qcow2_check.specs.Verdict.{status_of_verdict};

@@ -1,9 +1,11 @@
-//! What a repair leaves of images, and what it refuses.
+//! What a repair leaves of images, what it refuses, and how often it loads a table.
 
 use crate::readers::{is_image_consistent, repaired};
-use qcow2_testing::damages::{Repair, Unrepairable, repairs, unrepairable_images};
+use qcow2_testing::damages::{
+    Loaded, MOST_LOADS, Repair, Unrepairable, loaded_images, repairs, unrepairable_images,
+};
 use qcow2_testing::sample_image::{check_sample, sample_image};
-use qcow2_testing::{each, same};
+use qcow2_testing::{each, recorded, same};
 use std::alloc::Global;
 use std::test::Fail;
 
@@ -32,4 +34,18 @@ fn check_refused(alloc: Global, row: Unrepairable) -> Result<(), Fail> {
 #[test]
 fn what_cannot_be_repaired_is_refused_before_a_byte_changes(rt: HostRuntime) -> Result<(), Fail> {
     each(rt.alloc(), unrepairable_images(), check_refused)
+}
+
+fn check_loads(alloc: Global, row: Loaded) -> Result<(), Fail> {
+    let mut image = recorded(alloc, sample_image(alloc, 9, row.changes)?);
+    same(repaired(alloc, &mut image), Ok(()), row.name)?;
+    for table in row.l2_tables {
+        same(image.reads_of(*table) <= MOST_LOADS, true, row.name)?;
+    }
+    Ok(())
+}
+
+#[test]
+fn a_repair_loads_an_l2_table_at_most_five_times(rt: HostRuntime) -> Result<(), Fail> {
+    each(rt.alloc(), loaded_images(), check_loads)
 }

@@ -11,6 +11,7 @@ use Rattle.qcow2_metadata.specs.Header.{Geometry, HeaderRecord, geometry_of}
 use Rattle.qcow2_metadata.specs.Placed.{numbers_at}
 use Rattle.qcow2_metadata.specs.Table.{l2_layout}
 use Rattle.qcow2_check.proofs.FindingsLemmas.{all-cons}
+use Rattle.qcow2_check.specs.Counters.{counter_of}
 use Rattle.qcow2_check.specs.Flags.{flagged_cluster, image_flags, l1_flag, l1_flags, l2_flag, l2_flags, table_flags}
 use Rattle.qcow2_check.specs.NamedTables.{named_cluster}
 use Rattle.qcow2_check.specs.Tally.{ClusterUse, used_clusters}
@@ -80,16 +81,16 @@ found-all P None each = All-nil P
 found-all P (Some flag) each = All-cons P flag [] (each flag refl) (All-nil P)
 
 l2-flags-all : (P : WrongFlag → Type 0) (header : HeaderRecord) (reftable : List ℕ) (image : Image) (guest : ℕ) (vs : List ℕ)
-    → ((k at : ℕ) (flag : WrongFlag) → l2_flag header reftable image at (slice_index vs k) ≡ Some flag → P flag) → All P (l2_flags header reftable image guest vs)
+    → ((k at : ℕ) (flag : WrongFlag) → l2_flag (geometry_of header) (counter_of header reftable image) at (slice_index vs k) ≡ Some flag → P flag) → All P (l2_flags (geometry_of header) (counter_of header reftable image) guest vs)
 l2-flags-all P header reftable image guest [] each = All-nil P
-l2-flags-all P header reftable image guest (v ∷ vs) each = All-append P (option_to_list (l2_flag header reftable image guest v)) (l2_flags header reftable image (guest + 1) vs)
-    (found-all P (l2_flag header reftable image guest v) (each 0 guest))
+l2-flags-all P header reftable image guest (v ∷ vs) each = All-append P (option_to_list (l2_flag (geometry_of header) (counter_of header reftable image) guest v)) (l2_flags (geometry_of header) (counter_of header reftable image) (guest + 1) vs)
+    (found-all P (l2_flag (geometry_of header) (counter_of header reftable image) guest v) (each 0 guest))
     (l2-flags-all P header reftable image (guest + 1) vs (λ k. each (suc k)))
 
 table-flags-all : (P : WrongFlag → Type 0) (header : HeaderRecord) (reftable : List ℕ) (image : Image) (index v : ℕ) (found : Option HostCluster)
     → named_cluster header.v2.cluster_bits v ≡ found
     → ((table : HostCluster) (k at : ℕ) (flag : WrongFlag) → found ≡ Some table
-    → l2_flag header reftable image at (slice_index (l2_in header table image) k) ≡ Some flag → P flag) → All P (table_flags header reftable image index v)
+    → l2_flag (geometry_of header) (counter_of header reftable image) at (slice_index (l2_in header table image) k) ≡ Some flag → P flag) → All P (table_flags header reftable image index v)
 table-flags-all P header reftable image index v None names each = rw (names, table_flags) (All-nil P)
 table-flags-all P header reftable image index v (Some table) names each =
     rw (names, table_flags) (l2-flags-all P header reftable image _ (l2_in header table image) (λ k at flag. each table k at flag refl))
@@ -97,7 +98,7 @@ table-flags-all P header reftable image index v (Some table) names each =
 l1-flags-all : (P : WrongFlag → Type 0) (header : HeaderRecord) (reftable : List ℕ) (image : Image) (index : ℕ) (vs : List ℕ)
     → ((k at : ℕ) (flag : WrongFlag) → l1_flag header reftable image at (slice_index vs k) ≡ Some flag → P flag)
     → ((i : ℕ) (table : HostCluster) (k at : ℕ) (flag : WrongFlag) → named_cluster header.v2.cluster_bits (slice_index vs i) ≡ Some table
-    → l2_flag header reftable image at (slice_index (l2_in header table image) k) ≡ Some flag → P flag) → All P (l1_flags header reftable image index vs)
+    → l2_flag (geometry_of header) (counter_of header reftable image) at (slice_index (l2_in header table image) k) ≡ Some flag → P flag) → All P (l1_flags header reftable image index vs)
 l1-flags-all P header reftable image index [] one other = All-nil P
 l1-flags-all P header reftable image index (v ∷ vs) one other =
     All-append P (option_to_list (l1_flag header reftable image index v) ++ table_flags header reftable image index v) (l1_flags header reftable image (index + 1) vs)
@@ -109,6 +110,6 @@ l1-flags-all P header reftable image index (v ∷ vs) one other =
 pub image-flags-all : (P : WrongFlag → Type 0) (tables : ImageTables) (image : Image)
     → ((k at : ℕ) (flag : WrongFlag) → l1_flag tables.header tables.reftable image at (slice_index tables.l1 k) ≡ Some flag → P flag)
     → ((table : HostCluster) (k at : ℕ) (flag : WrongFlag) → NamesTable tables.header tables.l1 table
-    → l2_flag tables.header tables.reftable image at (slice_index (l2_in tables.header table image) k) ≡ Some flag → P flag) → All P (image_flags tables image)
+    → l2_flag (geometry_of tables.header) (counter_of tables.header tables.reftable image) at (slice_index (l2_in tables.header table image) k) ≡ Some flag → P flag) → All P (image_flags tables image)
 image-flags-all P tables image one other =
     l1-flags-all P tables.header tables.reftable image 0 tables.l1 one (λ i table k at flag names. other table k at flag (i, names))

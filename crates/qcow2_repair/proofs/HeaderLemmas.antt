@@ -5,15 +5,16 @@ use Rattle.std.proofs.lemmas.Grind.{div_ceil_times}
 use Rattle.std.proofs.lemmas.Nat.{pow_pos}
 use Rattle.std.proofs.Math.Nat.{div-eq_of_lt, le-div_iff_mul-le}
 use Rattle.std.specs.Int.{div_ceil}
-use Rattle.qcow2_base.specs.Storage.{Image, OnlyReads, OnlyWrites, SameOutside, StorageState}
+use Rattle.qcow2_base.specs.Storage.{Image, OnImage, OnlyReads, OnlyWrites, SameOutside, StorageState}
 use Rattle.qcow2_base.specs.declared.fault.Fault.{Fault}
 use Rattle.qcow2_base.specs.declared.types.HostCluster.{HostCluster}
 use Rattle.qcow2_metadata.proofs.TableLemmas.{table_numbers_same}
 use Rattle.qcow2_metadata.proofs.WriteLemmas.{header_text-placed}
 use Rattle.qcow2_metadata.specs.Header.{HeaderRecord, geometry_of}
 use Rattle.qcow2_metadata.specs.Header.Open.{BecomesWritable, IsWritableFault, SaysSame, is_rewritten, opened_text, without_autoclear}
+use Rattle.qcow2_metadata.specs.Placed.{place_fault}
 use Rattle.qcow2_metadata.specs.Results.{IsFromOutside}
-use Rattle.qcow2_metadata.specs.Table.{IsTableFault}
+use Rattle.qcow2_metadata.specs.Table.{IsTableFault, TableState}
 use Rattle.qcow2_metadata.specs.Header.Text.{chosen_text, header_after_write, header_text, header_to_write}
 use Rattle.qcow2_summary.proofs.ApartLemmas.{first-used, header-used, kind-append, l1-first-used, named-below, named-used}
 use Rattle.qcow2_check.proofs.FindingsLemmas.{excludes, uses_by_kind}
@@ -31,7 +32,7 @@ use Rattle.qcow2_repair.proofs.FlagWindowsLemmas.{loads-by}
 use Rattle.qcow2_repair.specs.Repair.{IsPassFault, IsRepairable, MakesWritable, tables_in}
 use Rattle.qcow2_check.specs.Failures.{ReportsFailures}
 use Rattle.qcow2_repair.specs.Refusals.{IsRepairRefusal, repairable_tables}
-use Rattle.qcow2_repair.specs.Flags.{NamesTable, l1_in, l2_in}
+use Rattle.qcow2_repair.specs.Flags.{IsL1TableOf, NamesTable, l1_in, l2_in}
 
 -- a header's text is written only where it fits the first cluster
 written-fits : (header written : HeaderRecord) → header_after_write header ≡ Ok written → length (header_text written) ≤ 2 ^ header.v2.cluster_bits
@@ -285,6 +286,27 @@ loads-written header written tables len before mid says found is outside fits =
     let kept : l1_in header mid ≡ l1_in header before = l1-stays (image_tables header tables.l1 tables.reftable) before mid len is outside fits in
     rw kept l1.0 in
     subst (λ v2. loaded_l1_table (record written { v2 = v2 }) mid ≡ Ok (l1_in (record written { v2 = v2 }) mid)) (sym says.v2) here
+
+-- the L1 table of the image that can be repaired is that by a header that says the same, once this is written
+pub l1-table-written : (header written : HeaderRecord) (table : TableState) (reftable : List ℕ) (len : ℕ) (before after : StorageState) → SaysSame header written
+    → (IsTrue after.tells → IsTrue before.tells) → OnImage before (IsRepairable (image_tables header table.numbers reftable))
+    → (IsTrue after.tells → SameOutside 0 len before.byte_at after.byte_at) → len ≤ 2 ^ header.v2.cluster_bits
+    → IsL1TableOf header before table → IsL1TableOf written after table
+l1-table-written header written table reftable len before after says known is outside fits of = record {
+  numbers = λ told.
+      let start = known told in
+      sym (repairable-written header written table.numbers reftable len before.byte_at after.byte_at says (is start) (of.numbers start) (outside told) fits).1;
+  count = subst (λ v2. length table.numbers ≡ (l1_layout (record written { v2 = v2 })).count) (sym says.v2) of.count;
+  cluster = subst (λ v2. table.cluster ≡ Some (l1_cluster (record written { v2 = v2 }))) (sym says.v2) of.cluster;
+  unmodified = of.unmodified;
+  geometry = of.geometry ∙ sym (geometry-said header written says);
+}
+
+-- and can lie where that says
+pub l1-place-said : (header written : HeaderRecord) → SaysSame header written → place_fault (l1_layout header) (l1_cluster header) ≡ None
+    → place_fault (l1_layout written) (l1_cluster written) ≡ None
+l1-place-said header written says = subst (λ v2. place_fault (l1_layout header) (l1_cluster header) ≡ None
+    → place_fault (l1_layout (record written { v2 = v2 })) (l1_cluster (record written { v2 = v2 })) ≡ None) (sym says.v2) (λ placed. placed)
 
 -- a fault after calls that read and calls that write
 pub reports-later : {A B C : Type 0} (x : A) (y : B) (z : C) (fault : Fault) (place : Option ℕ) (len : ℕ) (a b c d : StorageState)

@@ -13,7 +13,7 @@ use Rattle.qcow2_summary.proofs.ApartLemmas.{named-below, named-used}
 use Rattle.qcow2_check.proofs.FindingsLemmas.{uses_by_kind}
 use Rattle.qcow2_check.proofs.FindingsListLemmas.{no-more, none-just-where-right, pass-one, take-one}
 use Rattle.qcow2_summary.specs.Consistency.{IsConsistent}
-use Rattle.qcow2_check.specs.Counters.{block_of_cluster}
+use Rattle.qcow2_check.specs.Counters.{block_of_cluster, counter_of}
 use Rattle.qcow2_check.specs.Findings.{finding_at, findings_from, image_findings, is_shared, is_wrong}
 use Rattle.qcow2_check.specs.Flags.{flagged_cluster, image_flags, l1_flag, l2_flag, wrong_flag}
 use Rattle.qcow2_check.specs.NamedTables.{named_cluster}
@@ -137,7 +137,7 @@ l1-left tables image k at flag right flags is = by_name (named_cluster tables.he
 
 -- and that of an L2 entry
 l2-left : (tables : ImageTables) (image : Image) (table : HostCluster) (k at : ℕ) (flag : WrongFlag) → HasRightCounters tables image → HasRightFlags tables image
-    → NamesTable tables.header tables.l1 table → l2_flag tables.header tables.reftable image at (slice_index (l2_in tables.header table image) k) ≡ Some flag
+    → NamesTable tables.header tables.l1 table → l2_flag (geometry_of tables.header) (counter_of tables.header tables.reftable image) at (slice_index (l2_in tables.header table image) k) ≡ Some flag
     → IsLeftBelow tables image flag
 l2-left tables image table k at flag right flags names_table is = by_name (flagged_cluster (geometry_of tables.header) (slice_index (l2_in tables.header table image) k)) refl
   where

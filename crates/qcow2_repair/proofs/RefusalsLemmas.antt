@@ -1,4 +1,4 @@
-use Rattle.std.proofs.Common.{◌≡◌, ◌≢◌, ◌⊎◌, ℕ, Bool, zero, suc, false, true, ap, ◌+◌, ◌-◌, ◌*◌, ◌/◌, ◌%◌, ◌^◌, ◌<◌, ◌≤◌, List, Option, Result, Some, None, IsSome, Ok, Err, refl, subst, inl, inr, arith}
+use Rattle.std.proofs.Common.{◌≡◌, ◌≢◌, ◌⊎◌, ℕ, Bool, zero, suc, false, true, ap, ◌+◌, ◌-◌, ◌*◌, ◌/◌, ◌%◌, ◌^◌, ◌<◌, ◌≤◌, List, Option, Result, Some, None, IsSome, Ok, Err, refl, ◌∙◌, subst, inl, inr, arith}
 use Rattle.std.proofs.lemmas.Bool.{cases_lt}
 use Rattle.std.proofs.lemmas.Bool.Decides.{nat_tests}
 use Rattle.qcow2_base.specs.Format.{max_file_length}
@@ -15,10 +15,12 @@ use Rattle.qcow2_check.proofs.FindingsListLemmas.{pass-one, take-one}
 use Rattle.qcow2_check.specs.Counters.{block_of_cluster, blocks_fault}
 use Rattle.qcow2_check.specs.Findings.{FindingsState, IsFindingsOf, checked_tables, finding_at, findings_from, findings_left, image_findings, is_shared, is_wrong, tables_of}
 use Rattle.qcow2_check.specs.L1Length.{is_l1_short}
+use Rattle.qcow2_check.specs.NamedTables.{loaded_l1_table}
 use Rattle.qcow2_check.specs.Uses.{ImageTables, all_load, image_tables, image_uses}
 use Rattle.qcow2_check.specs.declared.findings.Finding.{Finding}
 use Rattle.qcow2_repair.specs.Repair.{IsRepairable, image_uses_of}
-use Rattle.qcow2_repair.specs.Refusals.{IsFindingRefusal, IsRepairRefusal, findings_refusal, header_refusal, refusal_of, repairable_tables, unrefused_tables}
+use Rattle.qcow2_repair.specs.Flags.{l1_in}
+use Rattle.qcow2_repair.specs.Refusals.{IsFindingRefusal, IsRepairRefusal, findings_refusal, header_refusal, refusal_of, unrefused_tables}
 
 -- a fact of each refcount order
 order-cases : (P : ℕ → Type 0) → P 0 → P 1 → P 2 → P 3 → P 4 → P 5 → P 6 → (order : ℕ) → order ≤ 6 → P order
@@ -118,6 +120,17 @@ still-refused (Some refused) a b fault is = grind (arith, is)
 -- the findings that a reader at the begin comes to are all of the image
 all-left : (reader : FindingsState) (image : Image) → reader.position ≡ 0 → findings_left reader image ≡ image_findings (tables_of reader) image
 all-left reader image begun = rw begun refl
+
+-- the L1 table of an image that can be checked is the one in the image
+pub checked-l1 : (header : HeaderRecord) (tables : ImageTables) (image : Image) → checked_tables header image ≡ Ok tables → tables.l1 ≡ l1_in header image
+checked-l1 header tables image is = by_l1 (loaded_l1_table header image) refl
+  where
+    by_l1 : (answer : Result (List ℕ) Fault) → loaded_l1_table header image ≡ answer → tables.l1 ≡ l1_in header image
+    by_l1 (Err fault) refused = absurd (grind (arith, nat_tests, refused, is))
+    by_l1 (Ok l1) there =
+        let numbers : l1 ≡ l1_in header image = grind (arith, nat_tests, there) in
+        let same : tables.l1 ≡ l1 = grind (arith, nat_tests, there, is) in
+        same ∙ numbers
 
 -- the tables that a reader has, where none of the findings that it came to was refused
 pub repairable-found : {T : Type 0} (header : HeaderRecord) (reader : FindingsState) (l1 reftable : List ℕ) (value : T) (old now : StorageState)

@@ -1,6 +1,7 @@
-use Rattle.std.proofs.Common.{◌≡◌, ◌≢◌, ℕ, zero, suc, false, ◌^◌, ◌<◌, ◌≤◌, List, [], ◌∷◌, ◌++◌, flat_map, slice_index, Option, Some, None, Ok, ap, refl, sym, ◌∙◌, arith}
+use Rattle.std.proofs.Common.{◌≡◌, ◌≢◌, ℕ, zero, suc, false, ◌^◌, ◌<◌, ◌≤◌, List, [], ◌∷◌, ◌++◌, flat_map, slice_index, Option, Some, None, IfSome, Ok, ap, refl, sym, ◌∙◌, arith}
 use Rattle.std.proofs.lemmas.Bool.Decides.{nat_tests}
 use Rattle.std.proofs.Math.Nat.{div-le_self}
+use Rattle.std.specs.List.{fold}
 use Rattle.qcow2_base.specs.Format.{max_file_length}
 use Rattle.qcow2_base.specs.Storage.{Image}
 use Rattle.qcow2_base.specs.declared.types.HostCluster.{HostCluster}
@@ -11,9 +12,9 @@ use Rattle.qcow2_metadata.specs.Table.{l2_layout, loaded_l2_table}
 use Rattle.qcow2_summary.proofs.ClustersLemmas.{table-same}
 use Rattle.qcow2_summary.proofs.ApartLemmas.{kind-append, named-below, named-used}
 use Rattle.qcow2_check.proofs.FindingsLemmas.{excludes, kind-cons, uses_by_kind}
-use Rattle.qcow2_check.specs.Findings.{is_shared, uses_of_kind}
+use Rattle.qcow2_check.specs.Findings.{CountsAll, is_shared, uses_of_kind}
 use Rattle.qcow2_check.specs.NamedTables.{named_block, named_cluster}
-use Rattle.qcow2_check.specs.Tally.{ClusterUse, used_clusters}
+use Rattle.qcow2_check.specs.Tally.{ClusterUse, TallyState, cell_with, used_clusters}
 use Rattle.qcow2_check.specs.Uses.{ImageTables, all_load, block_uses, entry_uses, header_uses, image_uses, l1_entry_loads, l1_entry_uses}
 use Rattle.qcow2_check.specs.declared.tally.TallyKind.TheVariants.{Fixed, L2Table}
 use Rattle.qcow2_repair.specs.Repair.{IsRepairable}
@@ -142,3 +143,9 @@ pub entry-loads : (g : Geometry) (l1 : List ℕ) (k : ℕ) (image : Image) → a
 entry-loads g [] k image loads = grind (arith, nat_tests)
 entry-loads g (v ∷ vs) zero image loads = grind (arith, loads)
 entry-loads g (v ∷ vs) (suc k) image loads = entry-loads g vs k image (grind (arith, loads))
+
+-- what a tally has counted stays so while the same clusters are used
+pub counts-still : (tables other : ImageTables) (old new : Image) (tally : Option TallyState) → image_uses other new ≡ image_uses tables old
+    → IfSome tally (CountsAll tables old) → IfSome tally (CountsAll other new)
+counts-still tables other old new None same counts = tt
+counts-still tables other old new (Some tally) same counts = λ c after before. counts c after before ∙ ap (fold (cell_with c) 0) (sym same)

@@ -1,22 +1,23 @@
 //! A pass of a repair over counters: those that are less than the uses of their clusters rise, or those that
 //! are greater fall.
 
-ghost use Rattle.std.specs.Prelude.{◌≡◌, ℕ, ◌⊎◌, ◌+◌, ◌/◌, ◌^◌, ◌<◌, ◌≤◌, IfErr, IfOk, IfSome, IsSomeAnd, MatchResult, None, OnOk, Some, length, slice_index, slice_set, true};
+ghost use Rattle.std.specs.Prelude.{◌≡◌, ℕ, ◌⊎◌, ◌+◌, ◌/◌, ◌^◌, ◌<◌, ◌≤◌, IfErr, IfOk, IfSome, MatchResult, None, OnOk, Some, length, slice_index, slice_set, true};
 ghost use Rattle.qcow2_base.specs.Format.{max_file_length};
-ghost use Rattle.qcow2_base.specs.Storage.{OnImage, OnImages, OnlyReads, OnlyWrites};
+ghost use Rattle.qcow2_base.specs.Storage.{OnImage, OnImages, OnlyWrites};
 ghost use Rattle.qcow2_base.specs.declared.fault.Fault.TheVariants.{CounterRange};
 ghost use Rattle.qcow2_metadata.specs.Placed.{offset_of, place_fault};
 ghost use Rattle.qcow2_metadata.specs.Refblock.{block_entries, block_geometry_of, block_layout, greatest_counter};
 ghost use Rattle.qcow2_metadata.specs.Results.{IsFromOutside};
 ghost use Rattle.qcow2_check.specs.Counters.{blocks_fault};
-ghost use Rattle.qcow2_check.specs.Findings.{CountsAll, IsLaterFault};
+ghost use Rattle.qcow2_check.specs.Findings.{CountsAll};
 ghost use Rattle.qcow2_check.specs.Tally.{cell_at};
 ghost use Rattle.qcow2_repair.specs.Repair.{IsRepairFault, IsRepairable};
 ghost use Rattle.qcow2_check.specs.Failures.{ReportsFailures};
 ghost use Rattle.qcow2_repair.specs.Counters.{BreaksOff, IsPastCounters, PassesBetween, PassesBlock, PassesCounters, block_counters, counter_towards};
 
+use crate::kept_tally::KeptTally;
 use qcow2_base::{Device, Fault, HostCluster, MAX_FILE_LENGTH, Storage};
-use qcow2_check::{ImageTables, Tally, Windows, count_of, counted_end, named_block};
+use qcow2_check::{ImageTables, Tally, count_of, counted_end, named_block};
 use qcow2_metadata::{RefBlock, Table};
 
 /// Which counters a pass changes.
@@ -129,56 +130,28 @@ fn pass_block<S: Storage>(
     block.write_if_modified(image, cluster)
 }
 
-// Counts the uses of a cluster and of those after it, unless a tally that is kept has.
-fn keep_tally<S: Storage>(
-    kept: &mut Option<Tally>,
-    image: &mut S,
-    tables: &ImageTables<'_>,
-    windows: &mut Windows,
-    cluster: u64,
-) -> Result<(), Fault>
-    requires cluster { cluster < max_file_length }
-    requires loads { OnImage (S.state image.old) (IsRepairable tables.now) }
-    requires kept { OnImage (S.state image.old) (λ bytes. IfSome kept.old (CountsAll tables.now bytes)) }
-    ensures fault { IfErr result (IsLaterFault (S.state image.old)) }
-    ensures storage { OnlyReads result (S.state image.old) (S.state image.new) }
-    ensures counted { OnImage (S.state image.old) (λ bytes. IfSome kept.new (CountsAll tables.now bytes)) }
-    ensures window { OnOk result (IsSomeAnd kept.new (λ tally.
-        (tally.first ≤ cluster) × (cluster < tally.end) × (tally.end ≤ max_file_length))) }
-{
-    if let Some(tally) = kept {
-        if tally.first() <= cluster && cluster < tally.end() {
-            return Ok(());
-        }
-    }
-    // Its memory is given back before the next window takes as much.
-    *kept = None;
-    *kept = Some(windows.count(image, tables, cluster)?);
-    Ok(())
-}
-
 // Passes over counters of the block of a cluster, from this one's on. Returns the cluster after the last of
 // them.
 #[tactic(auto, using(crate::proofs::CountersLemmas::place_of_named))]
 fn pass_from<S: Storage>(
     image: &mut S,
     tables: &ImageTables<'_>,
-    kept: &mut Option<Tally>,
-    windows: &mut Windows,
+    kept: &mut KeptTally,
     cluster: u64,
     pass: CounterPass,
 ) -> Result<u64, Fault>
     requires cluster { cluster < max_file_length }
     requires placed { blocks_fault tables.now.header tables.now.reftable ≡ None }
     requires repairable { OnImage (S.state image.old) (IsRepairable tables.now) }
-    requires kept { OnImage (S.state image.old) (λ bytes. IfSome kept.old (CountsAll tables.now bytes)) }
+    requires kept { OnImage (S.state image.old) (λ bytes.
+        IfSome kept.old.tally (CountsAll tables.now bytes)) }
     ensures passed { OnImages (S.state image.old) (S.state image.new) (λ before after.
         MatchResult result
         (λ end. PassesBetween tables.now pass cluster end before after)
         (λ fault. BreaksOff tables.now pass fault before after)) }
     ensures further { IfOk result (λ end. (cluster < end) × (end ≤ max_file_length)) }
     ensures kept { OnImages (S.state image.old) (S.state image.new) (λ _ after.
-        OnOk result (IfSome kept.new (CountsAll tables.now after))) }
+        OnOk result (IfSome kept.new.tally (CountsAll tables.now after))) }
     ensures fault { IfErr result (IsRepairFault (S.state image.old)) }
     ensures storage { ReportsFailures result (S.state image.old) (S.state image.new) }
 {
@@ -188,8 +161,8 @@ fn pass_from<S: Storage>(
     let Some(place) = named_block(tables.reftable, table_index) else {
         return Ok(block_end.min(MAX_FILE_LENGTH));
     };
-    keep_tally(kept, image, tables, windows, cluster)?;
-    let tally = kept.as_ref().unwrap();
+    kept.keep(image, tables, cluster)?;
+    let tally = kept.tally.as_ref().unwrap();
     let end = tally.end().min(block_end);
     let part = BlockPart {
         first,
@@ -204,23 +177,26 @@ fn pass_from<S: Storage>(
 pub(crate) fn pass_all_counters<S: Device>(
     image: &mut S,
     tables: &ImageTables<'_>,
+    kept: &mut KeptTally,
     pass: CounterPass,
 ) -> Result<(), Fault>
     requires placed { blocks_fault tables.now.header tables.now.reftable ≡ None }
     requires repairable { OnImage (S.state image.old) (IsRepairable tables.now) }
+    requires kept { OnImage (S.state image.old) (λ bytes.
+        IfSome kept.old.tally (CountsAll tables.now bytes)) }
     ensures passed { OnImages (S.state image.old) (S.state image.new) (λ before after.
         MatchResult result
         (λ _. PassesCounters tables.now pass before after)
         (λ fault. BreaksOff tables.now pass fault before after)) }
+    ensures kept { OnImages (S.state image.old) (S.state image.new) (λ _ after.
+        OnOk result (IfSome kept.new.tally (CountsAll tables.now after))) }
     ensures fault { IfErr result (IsRepairFault (S.state image.old)) }
     ensures storage { ReportsFailures result (S.state image.old) (S.state image.new) }
 {
-    let mut windows = Windows::new(tables);
     let end = counted_end(tables.header, tables.reftable);
-    let mut kept = None;
     let mut cluster = 0;
     while cluster < end {
-        cluster = pass_from(image, tables, &mut kept, &mut windows, cluster, pass)?;
+        cluster = pass_from(image, tables, kept, cluster, pass)?;
     }
     image.sync()?;
     Ok(())

@@ -1,12 +1,12 @@
 //! A pass of a repair over all copied flags of an image, by windows of the clusters whose uses are counted.
 
-ghost use Rattle.std.specs.Prelude.{◌≡◌, ◌<◌, ◌≤◌, IfErr, IfOk, IsOkUnless, MatchResult, None, OnOk, Option, Some, false, length};
+ghost use Rattle.std.specs.Prelude.{◌≡◌, ◌<◌, ◌≤◌, IfErr, IfOk, IfSome, IsOkUnless, MatchResult, None, OnOk, Option, Some, false, length};
 ghost use Rattle.qcow2_base.specs.Format.{max_file_length};
 ghost use Rattle.qcow2_base.specs.Storage.{OnImage, OnImages, OnlyWrites};
 ghost use Rattle.qcow2_base.specs.declared.fault.Fault.TheVariants.{Storage as StorageFailed};
 ghost use Rattle.qcow2_metadata.specs.Header.{geometry_of};
 ghost use Rattle.qcow2_metadata.specs.Placed.{offset_of, place_fault};
-ghost use Rattle.qcow2_check.specs.Findings.{IsLaterFault};
+ghost use Rattle.qcow2_check.specs.Findings.{CountsAll, IsLaterFault};
 ghost use Rattle.qcow2_check.specs.ImageTables.{IsPlacedReftable};
 ghost use Rattle.qcow2_check.specs.NamedTables.{l1_cluster, l1_layout};
 ghost use Rattle.qcow2_check.specs.Uses.{image_tables};
@@ -15,8 +15,9 @@ ghost use Rattle.qcow2_check.specs.Failures.{ReportsFailures};
 ghost use Rattle.qcow2_repair.specs.Flags.{BreaksOffFlags, IsL1TableOf, PassesFlags, l1_in, pass_all, pass_between};
 
 use crate::flags::FlagPass;
+use crate::kept_tally::KeptTally;
 use qcow2_base::{Device, Fault, Storage};
-use qcow2_check::{ImageTables, Windows, counted_end};
+use qcow2_check::{ImageTables, counted_end};
 use qcow2_metadata::{Header, L1Table, RefTable, Table};
 
 // Writes the L1 table of an image with this header, if it is modified.
@@ -52,7 +53,7 @@ fn pass_window<S: Storage>(
     header: &Header,
     l1_table: &mut L1Table,
     reftable: &RefTable,
-    windows: &mut Windows,
+    kept: &mut KeptTally,
     first: u64,
     flag: bool,
 ) -> Result<u64, Fault>
@@ -62,12 +63,16 @@ fn pass_window<S: Storage>(
     requires l1_table { IsL1TableOf header.now (S.state image.old) l1_table.old }
     requires repairable { OnImage (S.state image.old)
         (IsRepairable (image_tables header.now l1_table.old.numbers reftable.now.numbers)) }
+    requires kept { OnImage (S.state image.old) (λ bytes. IfSome kept.old.tally
+        (CountsAll (image_tables header.now l1_table.old.numbers reftable.now.numbers) bytes)) }
     ensures passed { let tables = image_tables header.now l1_table.old.numbers reftable.now.numbers in
         OnImages (S.state image.old) (S.state image.new) (λ before after. MatchResult result
         (λ end. PassesFlags (pass_between tables before flag first end) before after)
         (λ fault. BreaksOffFlags (pass_all tables before flag) fault before after)) }
     ensures further { IfOk result (λ end. (first < end) × (end ≤ max_file_length)) }
-    ensures l1_table { OnOk result (IsL1TableOf header.now (S.state image.new) l1_table.new) }
+    ensures kept { OnOk result (IsL1TableOf header.now (S.state image.new) l1_table.new)
+        × OnImages (S.state image.old) (S.state image.new) (λ _ after. OnOk result (IfSome kept.new.tally
+        (CountsAll (image_tables header.now l1_table.new.numbers reftable.now.numbers) after))) }
     ensures fault { IfErr result (IsLaterFault (S.state image.old)) }
     ensures storage { ReportsFailures result (S.state image.old) (S.state image.new) }
 {
@@ -76,11 +81,12 @@ fn pass_window<S: Storage>(
         l1_table,
         reftable,
     };
-    let tally = windows.count(image, &tables, first)?;
+    kept.keep_from(image, &tables, first)?;
+    let tally = kept.tally.as_ref().unwrap();
     let pass = FlagPass {
         header,
         reftable,
-        tally: &tally,
+        tally,
         flag,
     };
     pass.pass_l1(l1_table);
@@ -98,6 +104,7 @@ pub(crate) fn pass_all_flags<S: Device>(
     header: &Header,
     l1_table: &mut L1Table,
     reftable: &RefTable,
+    kept: &mut KeptTally,
     flag: bool,
 ) -> Result<(), Fault>
     requires reftable { IsPlacedReftable header.now reftable.now }
@@ -105,23 +112,22 @@ pub(crate) fn pass_all_flags<S: Device>(
     requires l1_table { IsL1TableOf header.now (S.state image.old) l1_table.old }
     requires repairable { OnImage (S.state image.old)
         (IsRepairable (image_tables header.now l1_table.old.numbers reftable.now.numbers)) }
+    requires kept { OnImage (S.state image.old) (λ bytes. IfSome kept.old.tally
+        (CountsAll (image_tables header.now l1_table.old.numbers reftable.now.numbers) bytes)) }
     ensures passed { let tables = image_tables header.now l1_table.old.numbers reftable.now.numbers in
         OnImages (S.state image.old) (S.state image.new) (λ before after. MatchResult result
         (λ _. PassesFlags (pass_all tables before flag) before after)
         (λ fault. BreaksOffFlags (pass_all tables before flag) fault before after)) }
-    ensures l1_table { OnOk result (IsL1TableOf header.now (S.state image.new) l1_table.new) }
+    ensures kept { OnOk result (IsL1TableOf header.now (S.state image.new) l1_table.new)
+        × OnImages (S.state image.old) (S.state image.new) (λ _ after. OnOk result (IfSome kept.new.tally
+        (CountsAll (image_tables header.now l1_table.new.numbers reftable.now.numbers) after))) }
     ensures fault { IfErr result (IsLaterFault (S.state image.old)) }
     ensures storage { ReportsFailures result (S.state image.old) (S.state image.new) }
 {
-    let mut windows = Windows::new(&ImageTables {
-        header,
-        l1_table,
-        reftable,
-    });
     let end = counted_end(header, reftable);
-    let mut first = pass_window(image, header, l1_table, reftable, &mut windows, 0, flag)?;
+    let mut first = pass_window(image, header, l1_table, reftable, kept, 0, flag)?;
     while first < end {
-        first = pass_window(image, header, l1_table, reftable, &mut windows, first, flag)?;
+        first = pass_window(image, header, l1_table, reftable, kept, first, flag)?;
     }
     image.sync()?;
     Ok(())

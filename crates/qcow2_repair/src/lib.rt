@@ -4,6 +4,7 @@
 mod counters;
 mod flag_windows;
 mod flags;
+mod kept_tally;
 pub mod laws;
 mod refusals;
 mod repair;

@@ -1,19 +1,22 @@
 //! What a repair refuses before it writes: parts that aren't read here, an L1 table that is too short,
 //! uses of a cluster that exclude each other, and more uses than a counter holds.
 
-ghost use Rattle.std.specs.Prelude.{◌≡◌, ◌⊎◌, ◌≤◌, IfErr, IfOk, MatchResult, None, Ok, Some};
+ghost use Rattle.std.specs.Prelude.{◌≡◌, ◌⊎◌, ◌≤◌, IfErr, IfOk, IfSome, MatchResult, None, Ok, Some};
 ghost use Rattle.qcow2_base.specs.Storage.{OnImage};
 ghost use Rattle.qcow2_base.specs.declared.fault.Fault.TheVariants.{CounterRange, Overlap};
+ghost use Rattle.qcow2_metadata.specs.Placed.{place_fault};
 ghost use Rattle.qcow2_metadata.specs.Refblock.{greatest_counter};
 ghost use Rattle.qcow2_metadata.specs.Results.{Reads, unless_refused};
-ghost use Rattle.qcow2_check.specs.Findings.{IsFindingsOf, MovesFindings, findings_left};
+ghost use Rattle.qcow2_check.specs.Findings.{CountsAll, IsFindingsOf, MovesFindings, findings_left};
 ghost use Rattle.qcow2_check.specs.ImageTables.{IsPlacedReftable};
+ghost use Rattle.qcow2_check.specs.NamedTables.{l1_cluster, l1_layout};
 ghost use Rattle.qcow2_check.specs.Uses.{image_tables};
 ghost use Rattle.qcow2_repair.specs.Repair.{IsRepairable};
+ghost use Rattle.qcow2_repair.specs.Flags.{IsL1TableOf};
 ghost use Rattle.qcow2_repair.specs.Refusals.{IsFindingRefusal, IsRepairRefusal, findings_refusal, header_refusal, refusal_of, repair_within, repairable_tables, unrefused_tables};
 
 use qcow2_base::{Device, Fault, Storage};
-use qcow2_check::{Finding, Findings, refuse_short_l1, refuse_tables_past_end};
+use qcow2_check::{Finding, Findings, Tally, refuse_short_l1, refuse_tables_past_end};
 use qcow2_metadata::{Header, L1Table, RefTable};
 use std::alloc::Global;
 
@@ -60,23 +63,27 @@ fn check_findings<S: Storage>(findings: &mut Findings<'_>, image: &mut S) -> Res
 }
 
 // The L1 table and the refcount table by which an image can be repaired, whatever its header says of parts
-// that aren't read here and of the L1 table's length.
+// that aren't read here and of the L1 table's length, and the uses that were counted last.
 fn unrefused_tables<S: Storage>(
     alloc: Global,
     image: &mut S,
     header: &Header,
-) -> Result<(L1Table, RefTable), Fault>
+) -> Result<(L1Table, RefTable, Option<Tally>), Fault>
     ensures reads { Reads (λ found. image_tables header.now found.0.numbers found.1.numbers) result
         (unrefused_tables header.now) (IsRepairRefusal header.now) (S.state image.old) (S.state image.new) }
     ensures reftable { IfOk result (λ found. IsPlacedReftable header.now found.1) }
     ensures repairable { IfOk result (λ found. OnImage (S.state image.old)
         (IsRepairable (image_tables header.now found.0.numbers found.1.numbers))) }
+    ensures l1_table { IfOk result (λ found. IsL1TableOf header.now (S.state image.old) found.0
+        × (place_fault (l1_layout header.now) (l1_cluster header.now) ≡ None)) }
+    ensures counted { IfOk result (λ found. OnImage (S.state image.old) (λ bytes.
+        IfSome found.2 (CountsAll (image_tables header.now found.0.numbers found.1.numbers) bytes))) }
 {
     prove!(header.cluster_bits() <= 21);
     prove!(header.refcount_order() <= 6);
     let mut findings = Findings::new(alloc, image, header)?;
     check_findings(&mut findings, image)?;
-    Ok(findings.into_tables())
+    Ok(findings.into_parts())
 }
 
 /// Refuses an image with this header that can't be repaired whatever its tables say: 37 where it has
@@ -104,7 +111,8 @@ pub(crate) fn refuse_past_end<S: Device>(
     refuse_tables_past_end(alloc, image, header)
 }
 
-/// The L1 table and the refcount table of an image with this header that can be repaired.
+/// The L1 table and the refcount table of an image with this header that can be repaired, and the uses that
+/// were counted last, if they are kept.
 ///
 /// Returns the fault of `refuse_unrepairable` or of `Findings::new`, or that of the first cluster that
 /// can't be repaired: 38 where its uses exclude each other, 30 where its counter can't hold their number.
@@ -113,12 +121,16 @@ pub(crate) fn repairable_tables<S: Storage>(
     alloc: Global,
     image: &mut S,
     header: &Header,
-) -> Result<(L1Table, RefTable), Fault>
+) -> Result<(L1Table, RefTable, Option<Tally>), Fault>
     ensures reads { Reads (λ found. image_tables header.now found.0.numbers found.1.numbers) result
         (repairable_tables header.now) (IsRepairRefusal header.now) (S.state image.old) (S.state image.new) }
     ensures reftable { IfOk result (λ found. IsPlacedReftable header.now found.1) }
     ensures repairable { IfOk result (λ found. OnImage (S.state image.old)
         (IsRepairable (image_tables header.now found.0.numbers found.1.numbers))) }
+    ensures l1_table { IfOk result (λ found. IsL1TableOf header.now (S.state image.old) found.0
+        × (place_fault (l1_layout header.now) (l1_cluster header.now) ≡ None)) }
+    ensures counted { IfOk result (λ found. OnImage (S.state image.old) (λ bytes.
+        IfSome found.2 (CountsAll (image_tables header.now found.0.numbers found.1.numbers) bytes))) }
 {
     refuse_unrepairable(header)?;
     unrefused_tables(alloc, image, header)

@@ -1,22 +1,24 @@
 //! Making an image's counters and copied flags right.
 
-ghost use Rattle.std.specs.Prelude.{◌≡◌, ◌⊎◌, Err, IfErr, IfOk, MatchResult, None, Ok, OnOk, true};
+ghost use Rattle.std.specs.Prelude.{◌≡◌, ◌⊎◌, Err, IfErr, IfOk, IfSome, MatchResult, None, Ok, OnOk, true};
 ghost use Rattle.qcow2_base.specs.Storage.{Image, OnImage, OnImages};
 ghost use Rattle.qcow2_metadata.specs.Header.Open.{header_after_load};
 ghost use Rattle.qcow2_metadata.specs.Placed.{place_fault};
 ghost use Rattle.qcow2_metadata.specs.Results.{IsFromOutside};
+ghost use Rattle.qcow2_check.specs.Findings.{CountsAll};
 ghost use Rattle.qcow2_check.specs.ImageTables.{IsPlacedReftable};
-ghost use Rattle.qcow2_check.specs.NamedTables.{l1_cluster, l1_layout, loaded_l1_table};
+ghost use Rattle.qcow2_check.specs.NamedTables.{l1_cluster, l1_layout};
 ghost use Rattle.qcow2_repair.specs.Repair.{BreaksOffCounters, BreaksOffRepair, IsPassFault, IsRepairFault, IsRepairable, Lowers, Raises, Repairs, RepairsImage, tables_in};
 ghost use Rattle.qcow2_check.specs.Failures.{RefusesAs, ReportsFailures};
-ghost use Rattle.qcow2_repair.specs.Flags.{IsL1TableOf, l1_in};
+ghost use Rattle.qcow2_repair.specs.Flags.{IsL1TableOf};
 ghost use Rattle.qcow2_repair.specs.Refusals.{repair_within, repairable_tables};
 
 use crate::counters::{CounterPass, pass_all_counters};
 use crate::flag_windows::pass_all_flags;
+use crate::kept_tally::KeptTally;
 use crate::refusals::{refuse_past_end, repairable_tables};
 use qcow2_base::{Device, Fault};
-use qcow2_check::{ImageTables, load_l1_table};
+use qcow2_check::{ImageTables, Tally, Windows};
 use qcow2_metadata::{Header, L1Table, RefTable};
 use std::alloc::Global;
 
@@ -52,24 +54,28 @@ pub fn repair_image<S: Device>(
 fn repair_whole<S: Device>(alloc: Global, image: &mut S, header: Header) -> Result<Header, Fault>
     ensures { RepairsImage header result (S.state image.old) (S.state image.new) }
 {
-    let (_, reftable) = repairable_tables(alloc, image, &header)?;
+    let (mut l1_table, reftable, tally) = repairable_tables(alloc, image, &header)?;
     let header = header.into_writable(image)?;
-    repair_written(alloc, image, &header, &reftable)?;
+    repair_written(image, &header, &mut l1_table, &reftable, tally)?;
     Ok(header)
 }
 
-// Makes counters and flags of an image right whose header is writable, once that is on the device.
+// Makes counters and flags of an image with these tables right whose header is writable, once that is on the
+// device. These uses are counted.
 fn repair_written<S: Device>(
-    alloc: Global,
     image: &mut S,
     header: &Header,
+    l1_table: &mut L1Table,
     reftable: &RefTable,
+    tally: Option<Tally>,
 ) -> Result<(), Fault>
     requires reftable { IsPlacedReftable header.now reftable.now }
-    requires loads { OnImage (S.state image.old) (λ bytes.
-        loaded_l1_table header.now bytes ≡ Ok (l1_in header.now bytes)) }
+    requires placed { place_fault (l1_layout header.now) (l1_cluster header.now) ≡ None }
+    requires l1_table { IsL1TableOf header.now (S.state image.old) l1_table.old }
     requires repairable { OnImage (S.state image.old) (λ bytes.
         IsRepairable (tables_in header.now reftable.now.numbers bytes) bytes) }
+    requires counted { OnImage (S.state image.old) (λ bytes.
+        IfSome tally (CountsAll (tables_in header.now reftable.now.numbers bytes) bytes)) }
     ensures repairs { OnImages (S.state image.old) (S.state image.new) (λ before after. MatchResult result
         (λ _. Repairs header.now reftable.now.numbers before after)
         (λ fault. BreaksOffRepair header.now reftable.now.numbers fault before after)) }
@@ -78,8 +84,13 @@ fn repair_written<S: Device>(
     ensures storage { ReportsFailures result (S.state image.old) (S.state image.new) }
 {
     image.sync()?;
-    let mut l1_table = load_l1_table(alloc, image, header)?;
-    repair_tables(image, header, &mut l1_table, reftable)
+    let windows = Windows::new(&ImageTables {
+        header,
+        l1_table,
+        reftable,
+    });
+    let mut kept = KeptTally { windows, tally };
+    repair_tables(image, header, l1_table, reftable, &mut kept)
 }
 
 // Makes counters and flags of an image with these tables right, in four passes.
@@ -88,21 +99,24 @@ fn repair_tables<S: Device>(
     header: &Header,
     l1_table: &mut L1Table,
     reftable: &RefTable,
+    kept: &mut KeptTally,
 ) -> Result<(), Fault>
     requires reftable { IsPlacedReftable header.now reftable.now }
     requires placed { place_fault (l1_layout header.now) (l1_cluster header.now) ≡ None }
     requires l1_table { IsL1TableOf header.now (S.state image.old) l1_table.old }
     requires repairable { OnImage (S.state image.old) (λ bytes.
         IsRepairable (tables_in header.now reftable.now.numbers bytes) bytes) }
+    requires kept { OnImage (S.state image.old) (λ bytes.
+        IfSome kept.old.tally (CountsAll (tables_in header.now reftable.now.numbers bytes) bytes)) }
     ensures repairs { OnImages (S.state image.old) (S.state image.new) (λ before after. MatchResult result
         (λ _. Repairs header.now reftable.now.numbers before after)
         (λ fault. BreaksOffRepair header.now reftable.now.numbers fault before after)) }
     ensures fault { IfErr result (IsRepairFault (S.state image.old)) }
     ensures storage { ReportsFailures result (S.state image.old) (S.state image.new) }
 {
-    pass_all_flags(image, header, l1_table, reftable, false)?;
-    pass_both_counters(image, header, l1_table, reftable)?;
-    pass_all_flags(image, header, l1_table, reftable, true)?;
+    pass_all_flags(image, header, l1_table, reftable, kept, false)?;
+    pass_both_counters(image, header, l1_table, reftable, kept)?;
+    pass_all_flags(image, header, l1_table, reftable, kept, true)?;
     Ok(())
 }
 
@@ -113,19 +127,23 @@ fn pass_both_counters<S: Device>(
     header: &Header,
     l1_table: &L1Table,
     reftable: &RefTable,
+    kept: &mut KeptTally,
 ) -> Result<(), Fault>
     requires reftable { IsPlacedReftable header.now reftable.now }
     requires placed { place_fault (l1_layout header.now) (l1_cluster header.now) ≡ None }
     requires l1_table { IsL1TableOf header.now (S.state image.old) l1_table.now }
     requires repairable { OnImage (S.state image.old) (λ bytes.
         IsRepairable (tables_in header.now reftable.now.numbers bytes) bytes) }
+    requires kept { OnImage (S.state image.old) (λ bytes.
+        IfSome kept.old.tally (CountsAll (tables_in header.now reftable.now.numbers bytes) bytes)) }
     ensures counters { OnImages (S.state image.old) (S.state image.new) (λ before after. MatchResult result
         (λ _. (mid : Image) × Raises header.now reftable.now.numbers before mid
         × Lowers header.now reftable.now.numbers mid after)
         (λ fault. BreaksOffCounters header.now reftable.now.numbers fault before after)) }
     ensures l1_table { IfOk result (λ _. IsL1TableOf header.now (S.state image.new) l1_table.now) }
     ensures repairable { OnOk result (OnImage (S.state image.new) (λ bytes.
-        IsRepairable (tables_in header.now reftable.now.numbers bytes) bytes)) }
+        let tables = tables_in header.now reftable.now.numbers bytes in
+        IsRepairable tables bytes × IfSome kept.new.tally (CountsAll tables bytes))) }
     ensures fault { IfErr result (IsRepairFault (S.state image.old)) }
     ensures storage { ReportsFailures result (S.state image.old) (S.state image.new) }
 {
@@ -134,7 +152,7 @@ fn pass_both_counters<S: Device>(
         l1_table,
         reftable,
     };
-    pass_all_counters(image, &tables, CounterPass::Rise)?;
-    pass_all_counters(image, &tables, CounterPass::Fall)?;
+    pass_all_counters(image, &tables, kept, CounterPass::Rise)?;
+    pass_all_counters(image, &tables, kept, CounterPass::Fall)?;
     Ok(())
 }

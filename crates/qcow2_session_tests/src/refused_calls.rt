@@ -85,10 +85,10 @@ const ROWS: &[Row] = rows! {
         printed: ALL_OBJECT, ..ROW },
     Row { call: Line("check IMAGE json"), before: LATE_TABLES, calls: 2 + 2 + 2 + 1 + 2 + 3,
         after: LATE_TABLES, printed: LATE_OBJECT, ..ROW },
-    // the tables and the image's end; what a check reads before the flags, and the L1 table; for each of four
-    // passes the L2 table for uses, and that or the block again, with a write of the block, and one of the
-    // L1 table and one of the L2 table; a sync before the first pass and after each
-    Row { call: Line("check IMAGE repair"), before: TO_REPAIR, calls: 3 + 2 + 4 + 1 + 2 + 2 + 3 + 4 + 5 + 5,
+    // the header, the tables and the image's end; what a check reads before the flags, and a sync; for each
+    // of four passes the L2 table or the block, with a write of the block, and one of the L1 table and one
+    // of the L2 table, and a sync; a check
+    Row { call: Line("check IMAGE repair"), before: TO_REPAIR, calls: 2 + 3 + 4 + 1 + 2 + 2 + 3 + 4 + 5,
         after: REPAIRED, printed: "consistent\n", again: "consistent\n", ..ROW },
     Row { call: Line("l2 IMAGE 9 2"), calls: 1, printed: "3 data 0xa00 copied\n", ..ROW },
     // an edit and a count end with a sync

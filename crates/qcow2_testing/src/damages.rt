@@ -128,6 +128,18 @@ impl Repair {
     }
 }
 
+/// An image whose tables a repair loads: changes of the sample image, and where its L2 tables are.
+#[derive(Clone, Copy, Debug)]
+pub struct Loaded {
+    pub name: &'static str,
+    pub changes: Numbers<'static>,
+    pub l2_tables: &'static [u64],
+}
+
+/// How often `check IMAGE repair` loads an L2 table at most: three times to count uses, to clear flags and to
+/// set flags, and twice to check what is left.
+pub const MOST_LOADS: usize = 5;
+
 /// An image that can't be repaired: changes of the sample image, and the fault.
 #[derive(Clone, Copy, Debug)]
 pub struct Unrepairable {
@@ -242,6 +254,11 @@ pub fn refused_images() -> [&'static [Refused]; 4] {
 /// All images that are repaired, in lists.
 pub fn repairs() -> [&'static [Repair]; 2] {
     [repaired::counts(), repaired::flags()]
+}
+
+/// Images for each step of a repair, and one that needs none.
+pub fn loaded_images() -> &'static [Loaded] {
+    repaired::loaded()
 }
 
 /// All images that can't be repaired, whatever the length of their file.

@@ -48,6 +48,20 @@ impl<S> FailingStorage<S> {
         }
     }
 
+    /// How many of the calls so far read the byte at an offset.
+    pub fn reads_of(&self, offset: u64) -> usize {
+        let mut reads = 0usize;
+        for call in &self.calls {
+            if let StorageCall::Read { offset: first, len } = *call
+                && first <= offset
+                && offset - first < len as u64
+            {
+                reads = reads.wrapping_add(1);
+            }
+        }
+        reads
+    }
+
     // Records the call, and reports whether it is to be passed on: not where it is planned to fail, nor
     // where no memory is left for the record.
     fn admits(&mut self, call: StorageCall) -> bool

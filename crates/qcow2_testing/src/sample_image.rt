@@ -94,7 +94,7 @@ pub const LARGER: (u64, u64) = (24, 65536);
 /// An external data file.
 pub const EXTERNAL: (u64, u64) = (72, 4);
 
-/// A feature that whoever writes clears.
+/// An autoclear feature.
 pub const AUTOCLEAR: (u64, u64) = (88, 1);
 
 /// The L1 entry without the copied flag.

@@ -1,6 +1,6 @@
 //! Images that are repaired, and those that can't be.
 
-use super::{LARGE_COUNTERS, LATE_TABLES, Repair, Unrepairable};
+use super::{LARGE_COUNTERS, LATE_TABLES, Loaded, Repair, Unrepairable};
 use crate::sample_image::{
     AUTOCLEAR, COUNTERS, COUNTERS_4, COUNTERS_8, DATA, DATA_ENTRY, EXTERNAL, L1_TABLE, L2_TABLE,
     LARGER, NEXT_ENTRY, NEXT_TABLE, NO_DATA, REFTABLE, TABLE, TABLE_ENTRY, TABLE_TWICE,
@@ -94,6 +94,20 @@ const FLAGS: &[Repair] = rows! {
         ..CONSISTENT },
 };
 
+const LOADED: &[Loaded] = rows! { Loaded:
+    { name: "an image in order", changes: counted! {}, l2_tables: &[L2_TABLE] },
+    { name: "a leaked cluster", changes: counted! { TO_6 }, l2_tables: &[L2_TABLE] },
+    { name: "false flags", changes: counted! { (NEXT_ENTRY, COPIED + 0xa00), TWICE },
+        l2_tables: &[L2_TABLE] },
+    { name: "late flags of two tables", changes: LATE_TABLES, l2_tables: &[L2_TABLE, 0xc00] },
+    { name: "missing data", changes: counted! { NO_DATA }, l2_tables: &[L2_TABLE] },
+    { name: "all of that in two tables",
+        changes: counted! {
+            LARGER, TWO_TABLES, DATA, (NEXT_TABLE, COPIED + 0xc00), (0xc00, COPIED + 0xa00),
+            (0xc00 + 504, 0xe00), (COUNTERS_8, 1)
+        }, l2_tables: &[L2_TABLE, 0xc00] },
+};
+
 // Counters of one bit, of which the first six are 1.
 const NARROW: (u64, u64) = (96, 0x0000_0000_0000_0068);
 
@@ -159,4 +173,9 @@ pub(super) fn flags() -> &'static [Repair] {
 /// Images that can't be repaired.
 pub(super) fn unrepairable() -> &'static [Unrepairable] {
     UNREPAIRABLE
+}
+
+/// Images whose tables a repair loads.
+pub(super) fn loaded() -> &'static [Loaded] {
+    LOADED
 }

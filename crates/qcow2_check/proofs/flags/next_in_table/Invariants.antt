@@ -1,6 +1,6 @@
 use Rattle.std.proofs.Common.{◌≡◌, ◌-◌, ◌≤◌, length, Ok}
 use Rattle.qcow2_base.specs.Storage.{OnImage, OnlyReads}
-use Rattle.qcow2_check.specs.Counters.{IsSameButBlock}
+use Rattle.qcow2_check.specs.Counters.{IsSameButBlock, counter_of}
 use Rattle.qcow2_check.specs.Flags.{l2_flags_from}
 use Rattle.qcow2_check.proofs.flags.next_in_table.Given as goal
 
@@ -10,8 +10,9 @@ invariant-loop-position g l =
     let old = g.S.Storage.state l.fn.image in
     record {
       left : OnImage old (λ bytes.
-          l2_flags_from l.fn.counters.header l.fn.counters.reftable bytes l.l1_index l.table.numbers l.fn.position
-          ≡ l2_flags_from l.fn.counters.header l.fn.counters.reftable bytes l.l1_index l.table.numbers l.position);
+          let counter = counter_of l.fn.counters.header l.fn.counters.reftable bytes in
+          l2_flags_from l.table.geometry counter l.l1_index l.table.numbers l.fn.position
+          ≡ l2_flags_from l.table.geometry counter l.l1_index l.table.numbers l.position);
       further : l.fn.position ≤ l.position;
       reader : IsSameButBlock old l.fn.counters l.counters;
       storage : OnlyReads (Ok l.position) old (g.S.Storage.state l.image);

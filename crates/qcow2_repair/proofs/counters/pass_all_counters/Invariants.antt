@@ -11,7 +11,7 @@ use Rattle.qcow2_repair.proofs.counters.pass_all_counters.Given as goal
 abbrev pub invariant-loop-cluster : goal.invariant-loop-cluster
 invariant-loop-cluster g l = record {
   passed : OnImages (g.S.Storage.state l.fn.image) (g.S.Storage.state l.image) (λ before after. PassesBetween l.tables l.pass 0 l.cluster before after);
-  kept : OnImage (g.S.Storage.state l.image) (λ bytes. IfSome l.kept (CountsAll l.tables bytes));
+  kept : OnImage (g.S.Storage.state l.image) (λ bytes. IfSome l.kept.tally (CountsAll l.tables bytes));
   repairable : OnImage (g.S.Storage.state l.image) (IsRepairable l.tables);
   within : l.cluster ≤ max_file_length;
   storage : ReportsFailures (Ok l.cluster) (g.S.Storage.state l.fn.image) (g.S.Storage.state l.image);

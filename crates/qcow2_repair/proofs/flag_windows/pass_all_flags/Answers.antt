@@ -39,6 +39,7 @@ loop-first-preserved g c = record {
       passes-joined tables c.args.flag c.loop-first.first c.in_ok-first-2.first (g.S.Storage.state c.args.image.now).byte_at (g.S.Storage.state c.loop-first.image).byte_at
       (g.S.Storage.state c.pass_window-in-loop-first.new.image).byte_at (search rules) by passes;
   l1_table = search rules;
+  kept = search rules;
   within = search rules;
   storage = search rules;
 }

@@ -1,7 +1,7 @@
-use Rattle.std.proofs.Common.{rules, ap, ◌∙◌}
+use Rattle.std.proofs.Common.{◌≡◌, IsTrue, rules, ap, ◌∙◌}
 use Rattle.std.proofs.lemmas.Result.{err_from_is_err_and}
 use Rattle.qcow2_check.specs.Findings.{FindingsState}
-use Rattle.qcow2_repair.proofs.RefusalsLemmas.{refused-reads, repairable-found}
+use Rattle.qcow2_repair.proofs.RefusalsLemmas.{checked-l1, refused-reads, repairable-found}
 use Rattle.qcow2_repair.proofs.refusals.unrefused_tables.Goals as goal
 
 pub returns-in_err-check_findings-clause-reads : goal.returns-in_err-check_findings-clause-reads
@@ -16,10 +16,34 @@ pub returns-clause-repairable : goal.returns-clause-repairable
 returns-clause-repairable g c =
     let begun = c.in_ok-findings.ensures in
     let moved = c.in_ok-check_findings.ensures.reader.same in
-    repairable-found c.args.header.now c.in_ok-findings.findings c.into_tables.result.0.numbers c.into_tables.result.1.numbers c.in_ok-findings.findings
+    repairable-found c.args.header.now c.in_ok-findings.findings c.into_parts.result.0.numbers c.into_parts.result.1.numbers c.in_ok-findings.findings
     (g.S.Storage.state c.args.image.now) (g.S.Storage.state c.new.new.image)
     (search rules) (search rules) begun.begun.0 begun.begun.1
-    (c.into_tables.ensures.numbers.0 ∙ ap (λ (r : FindingsState). r.l1) moved)
-    (c.into_tables.ensures.numbers.1 ∙ ap (λ (r : FindingsState). r.counters.reftable) moved)
-    (rw moved at c.into_tables.ensures.placed)
+    (c.into_parts.ensures.numbers.0 ∙ ap (λ (r : FindingsState). r.l1) moved)
+    (c.into_parts.ensures.numbers.1 ∙ ap (λ (r : FindingsState). r.counters.reftable) moved)
+    (rw moved at c.into_parts.ensures.placed)
     (g.met.S.Storage.byte_fits c.args.image.now) begun.reads.storage begun.reader c.in_ok-check_findings.ensures.reads.exact
+
+pub returns-clause-l1_table : goal.returns-clause-l1_table
+returns-clause-l1_table g c =
+    let moved = c.in_ok-check_findings.ensures.reader.same in (
+      record {
+        numbers = λ told.
+            c.into_parts.ensures.numbers.0 ∙ ap (λ (r : FindingsState). r.l1) moved
+            ∙ checked-l1 c.args.header.now _ _ (c.in_ok-findings.ensures.reads.exact told);
+        count = search rules;
+        cluster = search rules;
+        unmodified = search rules;
+        geometry = search rules;
+      },
+      search rules,
+    )
+
+pub returns-clause-counted : goal.returns-clause-counted
+returns-clause-counted g c = λ told.
+    let bytes : (g.S.Storage.state c.new.new.image).byte_at ≡ (g.S.Storage.state c.args.image.now).byte_at = search rules in
+    let known : IsTrue (g.S.Storage.state c.new.new.image).tells = search rules in
+    let moved = c.in_ok-check_findings.ensures.reader.same in
+    let header = ap (λ (r : FindingsState). r.header) moved ∙ c.in_ok-findings.ensures.begun.0 in
+    let counted = rw bytes at (c.in_ok-check_findings.ensures.reader.kept known).counted in
+    rw (c.into_parts.ensures.numbers.2, c.into_parts.ensures.numbers.0, c.into_parts.ensures.numbers.1) (rw header at counted)

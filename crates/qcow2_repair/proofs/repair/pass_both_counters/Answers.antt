@@ -1,5 +1,6 @@
-use Rattle.std.proofs.Common.{◌≡◌, IsTrue, inl, inr, sym, ◌∙◌, rules}
+use Rattle.std.proofs.Common.{◌≡◌, IfSome, IsTrue, inl, inr, sym, ◌∙◌, rules}
 use Rattle.std.proofs.lemmas.Result.{err_from_is_err_and}
+use Rattle.qcow2_check.specs.Findings.{CountsAll}
 use Rattle.qcow2_check.specs.Uses.{ImageTables, image_tables}
 use Rattle.qcow2_repair.proofs.RepairLemmas.{repairable-stays}
 use Rattle.qcow2_repair.proofs.OrderLemmas.{l1-stays}
@@ -81,4 +82,10 @@ returns-clause-repairable g c = λ told.
     let end = repairable-stays tables mid after still lowered.others in
     let l1 : c.args.l1_table.now.numbers ≡ l1_in header after =
     c.requires.l1_table.numbers start ∙ sym (l1-stays tables mid after still lowered.others ∙ l1-stays tables before mid is raised.others) in
-    rw l1 at end
+    let both : IsRepairable tables after × IfSome c.pass_all_counters-2.new.kept.tally (CountsAll tables after) = (end, c.in_ok-pass_all_counters-2.ensures.kept known) in
+    rw l1 at both
+
+pub pass_all_counters-requires-2-clause-kept : goal.pass_all_counters-requires-2-clause-kept
+pass_all_counters-requires-2-clause-kept g c = λ told.
+    let start : IsTrue (g.S.Storage.state c.args.image.now).tells = search rules in
+    c.in_ok-pass_all_counters.ensures.kept start

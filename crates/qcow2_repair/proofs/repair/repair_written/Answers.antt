@@ -8,14 +8,8 @@ returns-in_err-sync-clause-repairs g c = λ told.
     let exit = err_from_is_err_and c.from_residual.result c.from_residual.ensures.1 in
     rw exit.1 (inl (flags-unchanged _ _ (g.S.Storage.state c.args.image.now).byte_at (g.S.Storage.state c.sync.new.self).byte_at (search rules)))
 
-pub returns-in_err-l1_table-clause-repairs : goal.returns-in_err-l1_table-clause-repairs
-returns-in_err-l1_table-clause-repairs g c = λ told.
-    let exit = err_from_is_err_and c.from_residual-in_err-l1_table.result c.from_residual-in_err-l1_table.ensures.1 in
-    let bytes : (g.S.Storage.state c.load_l1_table.new.image).byte_at ≡ (g.S.Storage.state c.args.image.now).byte_at = search rules in
-    rw exit.1 (inl (flags-unchanged _ _ (g.S.Storage.state c.args.image.now).byte_at (g.S.Storage.state c.load_l1_table.new.image).byte_at bytes))
-
 pub returns-clause-repairs : goal.returns-clause-repairs
 returns-clause-repairs g c = λ told.
-    let bytes : (g.S.Storage.state c.load_l1_table.new.image).byte_at ≡ (g.S.Storage.state c.args.image.now).byte_at = search rules in
-    let known : IsTrue (g.S.Storage.state c.load_l1_table.new.image).tells = search rules in
+    let bytes : (g.S.Storage.state c.sync.new.self).byte_at ≡ (g.S.Storage.state c.args.image.now).byte_at = search rules in
+    let known : IsTrue (g.S.Storage.state c.sync.new.self).tells = search rules in
     rw bytes at (c.repair_tables.ensures.repairs known)
