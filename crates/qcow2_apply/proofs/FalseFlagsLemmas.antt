@@ -204,12 +204,12 @@ l1-each header reftable image index (v ∷ vs) (suc k) below late =
 
 -- and that of each L2 entry
 l2-each : (header : HeaderRecord) (reftable : List ℕ) (image : Image) (guest : ℕ) (vs : List ℕ) (k : ℕ) → k < length vs
-    → All IsLate (l2_flags header reftable image guest vs) → (at : ℕ) × All IsLate (option_to_list (l2_flag header reftable image at (slice_index vs k)))
+    → All IsLate (l2_flags (geometry_of header) (counter_of header reftable image) guest vs) → (at : ℕ) × All IsLate (option_to_list (l2_flag (geometry_of header) (counter_of header reftable image) at (slice_index vs k)))
 l2-each header reftable image guest [] k below late = absurd (omega (arith, below))
 l2-each header reftable image guest (v ∷ vs) zero below late =
-    (guest, all-left IsLate (option_to_list (l2_flag header reftable image guest v)) (l2_flags header reftable image (guest + 1) vs) late)
+    (guest, all-left IsLate (option_to_list (l2_flag (geometry_of header) (counter_of header reftable image) guest v)) (l2_flags (geometry_of header) (counter_of header reftable image) (guest + 1) vs) late)
 l2-each header reftable image guest (v ∷ vs) (suc k) below late = l2-each header reftable image (guest + 1) vs k (omega (arith, below))
-    (all-right IsLate (option_to_list (l2_flag header reftable image guest v)) (l2_flags header reftable image (guest + 1) vs) late)
+    (all-right IsLate (option_to_list (l2_flag (geometry_of header) (counter_of header reftable image) guest v)) (l2_flags (geometry_of header) (counter_of header reftable image) (guest + 1) vs) late)
 
 -- an entry past the end is 0
 within : (vs : List ℕ) (k : ℕ) → (k < length vs) ⊎ (slice_index vs k ≡ 0)
@@ -262,16 +262,16 @@ found-late None each = All-nil IsLate
 found-late (Some flag) each = All-cons IsLate flag [] (each flag refl) (All-nil IsLate)
 
 l2-late : (header : HeaderRecord) (reftable : List ℕ) (image : Image) (guest : ℕ) (vs : List ℕ)
-    → ((k at : ℕ) (flag : WrongFlag) → l2_flag header reftable image at (slice_index vs k) ≡ Some flag → IsLate flag)
-    → All IsLate (l2_flags header reftable image guest vs)
+    → ((k at : ℕ) (flag : WrongFlag) → l2_flag (geometry_of header) (counter_of header reftable image) at (slice_index vs k) ≡ Some flag → IsLate flag)
+    → All IsLate (l2_flags (geometry_of header) (counter_of header reftable image) guest vs)
 l2-late header reftable image guest [] each = All-nil IsLate
 l2-late header reftable image guest (v ∷ vs) each =
-    All-append IsLate (option_to_list (l2_flag header reftable image guest v)) (l2_flags header reftable image (guest + 1) vs)
-    (found-late (l2_flag header reftable image guest v) (each 0 guest)) (l2-late header reftable image (guest + 1) vs (λ k. each (suc k)))
+    All-append IsLate (option_to_list (l2_flag (geometry_of header) (counter_of header reftable image) guest v)) (l2_flags (geometry_of header) (counter_of header reftable image) (guest + 1) vs)
+    (found-late (l2_flag (geometry_of header) (counter_of header reftable image) guest v) (each 0 guest)) (l2-late header reftable image (guest + 1) vs (λ k. each (suc k)))
 
 table-late : (header : HeaderRecord) (reftable : List ℕ) (image : Image) (index v : ℕ) (found : Option HostCluster)
     → named_cluster header.v2.cluster_bits v ≡ found → ((table : HostCluster) (k at : ℕ) (flag : WrongFlag) → found ≡ Some table
-    → l2_flag header reftable image at (slice_index (numbers_at (l2_layout (geometry_of header)) table image) k) ≡ Some flag → IsLate flag)
+    → l2_flag (geometry_of header) (counter_of header reftable image) at (slice_index (numbers_at (l2_layout (geometry_of header)) table image) k) ≡ Some flag → IsLate flag)
     → All IsLate (table_flags header reftable image index v)
 table-late header reftable image index v None names each = rw (names, table_flags) (All-nil IsLate)
 table-late header reftable image index v (Some table) names each = rw (names, table_flags)
@@ -280,7 +280,7 @@ table-late header reftable image index v (Some table) names each = rw (names, ta
 l1-late : (header : HeaderRecord) (reftable : List ℕ) (image : Image) (index : ℕ) (vs : List ℕ)
     → ((k at : ℕ) (flag : WrongFlag) → l1_flag header reftable image at (slice_index vs k) ≡ Some flag → IsLate flag)
     → ((i : ℕ) (table : HostCluster) (k at : ℕ) (flag : WrongFlag) → named_cluster header.v2.cluster_bits (slice_index vs i) ≡ Some table
-    → l2_flag header reftable image at (slice_index (numbers_at (l2_layout (geometry_of header)) table image) k) ≡ Some flag → IsLate flag)
+    → l2_flag (geometry_of header) (counter_of header reftable image) at (slice_index (numbers_at (l2_layout (geometry_of header)) table image) k) ≡ Some flag → IsLate flag)
     → All IsLate (l1_flags header reftable image index vs)
 l1-late header reftable image index [] one other = All-nil IsLate
 l1-late header reftable image index (v ∷ vs) one other =
@@ -308,7 +308,7 @@ are-late tables image inside true_ones = l1-late tables.header tables.reftable i
             (true_ones.l1_entries k cluster names) (rw (names, l1_flag) at is)
 
     of_l2 : (i : ℕ) (table : HostCluster) (k at : ℕ) (flag : WrongFlag) → named_cluster tables.header.v2.cluster_bits (slice_index tables.l1 i) ≡ Some table
-        → l2_flag tables.header tables.reftable image at (slice_index (numbers_at (l2_layout (geometry_of tables.header)) table image) k) ≡ Some flag → IsLate flag
+        → l2_flag (geometry_of tables.header) (counter_of tables.header tables.reftable image) at (slice_index (numbers_at (l2_layout (geometry_of tables.header)) table image) k) ≡ Some flag → IsLate flag
     of_l2 i table k at flag named is = by_name (flagged_cluster (geometry_of tables.header) (slice_index (numbers_at (l2_layout (geometry_of tables.header)) table image) k)) refl
       where
         v : ℕ

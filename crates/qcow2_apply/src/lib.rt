@@ -1,5 +1,5 @@
-//! Edits of guest ranges of an image: what they need, what they do to counters and clusters, the edits
-//! themselves, and what they keep of an image.
+//! Edits of guest ranges of an image: what they need, what they do to counters and clusters, how they are
+//! made, and laws on what they preserve.
 #![tactic(auto)]
 
 mod apply;

@@ -9,14 +9,14 @@ ghost use Rattle.qcow2_apply.specs.Plan.{AreRead, CanBePlannedBy, IsPlanFor, IsP
 use crate::guest_edits::check_edits;
 use crate::planned_tables::plan_by_tables;
 use crate::{ChangedClusters, Changes, CounterTables, EditsByTable, GuestEdit};
-use qcow2_base::{Device, Fault, Storage};
+use qcow2_base::{Device, Fault};
 use qcow2_check::{Counters, load_l1_table, refuse_tables_past_end};
 use qcow2_metadata::{Header, L1Table, RefTable};
 use std::alloc::Global;
 
 // The tables that edits of a disk are planned by: the L1 table, and a reader of counters. Refuses edits that
-// can't be made of any disk of this header.
-fn read_tables<'a, S: Storage>(
+// can't be made of any disk of this header, and then an image by the faults of `refuse_tables_past_end`.
+fn read_tables<'a, S: Device>(
     alloc: Global,
     image: &mut S,
     header: &'a Header,
@@ -27,9 +27,12 @@ fn read_tables<'a, S: Storage>(
     ensures tables { IfOk result (λ tables. CanBePlannedBy header.now edits.now tables.0 tables.1) }
     ensures refused { IfErr result (λ fault. OnImage (S.state image.old) (λ bytes.
         IsFromOutside fault ⊎ RefusesEdits header.now edits.now bytes fault)) }
+    ensures end { OnImage (S.state image.old) (λ bytes.
+        RefusesAs (edits_within header.now edits.now (S.state image.old).len bytes) result) }
     ensures storage { OnlyReads result (S.state image.old) (S.state image.new) }
 {
     check_edits(header, edits)?;
+    refuse_tables_past_end(alloc, image, header)?;
     let l1_table = load_l1_table(alloc, image, header)?;
     let counters = Counters::new(alloc, image, header)?;
     Ok((l1_table, counters))
@@ -53,22 +56,6 @@ pub struct Plan {
     pub clusters: ChangedClusters,
 }
 
-// Refuses edits that can't be made of any disk of this header, or an image by the faults of
-// `refuse_tables_past_end`.
-fn refuse_past_end<S: Device>(
-    alloc: Global,
-    image: &mut S,
-    header: &Header,
-    edits: &[GuestEdit],
-) -> Result<(), Fault>
-    ensures exact { OnImage (S.state image.old) (λ bytes. Answers (λ done. done) result
-        (edits_within header.now edits.now (S.state image.old).len bytes)) }
-    ensures storage { OnlyReads result (S.state image.old) (S.state image.new) }
-{
-    check_edits(header, edits)?;
-    refuse_tables_past_end(alloc, image, header)
-}
-
 impl Plan {
     /// Looks at all that edits of a disk need and do, and refuses them where something can't be, by the
     /// faults that `apply_edits` names. Changes no byte.
@@ -85,24 +72,6 @@ impl Plan {
             IsFromOutside fault ⊎ RefusesEdits header.now edits.now bytes fault)) }
         ensures end { OnImage (S.state image.old) (λ bytes.
             RefusesAs (edits_within header.now edits.now (S.state image.old).len bytes) result) }
-        ensures storage { OnlyReads result (S.state image.old) (S.state image.new) }
-    {
-        refuse_past_end(alloc, image, header, edits)?;
-        Plan::of_whole(alloc, image, header, edits)
-    }
-
-    // The same of an image that has all tables and blocks which it names.
-    fn of_whole<S: Storage>(
-        alloc: Global,
-        image: &mut S,
-        header: &Header,
-        edits: &[GuestEdit],
-    ) -> Result<Plan, Fault>
-        ensures planned { IfOk result (λ plan. OnImage (S.state image.old) (λ bytes.
-            IsPlanOf header.now edits.now bytes plan)) }
-        ensures plan { IfOk result (IsPlanFor header.now edits.now) }
-        ensures refused { IfErr result (λ fault. OnImage (S.state image.old) (λ bytes.
-            IsFromOutside fault ⊎ RefusesEdits header.now edits.now bytes fault)) }
         ensures storage { OnlyReads result (S.state image.old) (S.state image.new) }
     {
         let (l1_table, mut counters) = read_tables(alloc, image, header, edits)?;
