@@ -1,6 +1,6 @@
 """Lists of edits of a disk that are drawn at random, and what must become of them.
 
-What `qmeta apply` must do follows docs/PROGRAM.md and docs/FORMAT.md.
+What `qmeta apply` must do follows docs/REFERENCE.md and docs/FORMAT.md.
 """
 
 from collections import Counter

@@ -5,9 +5,16 @@ import os
 import subprocess
 import sys
 import time
+from typing import NamedTuple
 
 # Prints the number of a process that becomes the program once standard input ends.
 STARTER = 'exec 3<&0; { read -r _; exec "$@"; } <&3 >/dev/null & echo $!'
+
+# The same with the program's output in a file, and with a limit of processor time, in seconds.
+LIMITED_STARTER = 'ulimit -t "$1"; output=$2; shift 2; exec 3<&0; { read -r _; exec "$@"; } <&3 >"$output" 2>&1 & echo $!'
+
+# How many bytes of output are read at once.
+PIECE = 1 << 20
 
 # Linux's request that this process becomes the parent of programs whose parent ended.
 PR_SET_CHILD_SUBREAPER = 36
@@ -40,6 +47,37 @@ def peak_memory(words):
     if status != 0:
         sys.exit(f"{' '.join(map(str, words))}: status {os.waitstatus_to_exitcode(status)}")
     return usage.ru_maxrss
+
+
+class Run(NamedTuple):
+    """How a program ran: user and system time, peak memory in KiB, bytes printed, and its status, below 0 by a signal."""
+
+    seconds: float
+    memory: int
+    printed: int
+    status: int
+
+    @property
+    def was_ended(self):
+        """Whether a signal ended it, as the limit's does."""
+        return self.status < 0
+
+
+def run_limited(words, limit):
+    """Runs a program for at most that many seconds of processor time. Counts what it prints, and keeps none of it."""
+    reader, writer = os.pipe()
+    limits = [str(limit), f"/dev/fd/{writer}"]
+    pipes = {"stdin": subprocess.PIPE, "stdout": subprocess.PIPE, "pass_fds": [writer]}
+    with subprocess.Popen(["sh", "-c", LIMITED_STARTER, "sh", *limits, *words], **pipes) as shell:
+        program = int(shell.stdout.readline())
+        shell.wait()
+    os.close(writer)
+    printed = 0
+    with open(reader, "rb", buffering=0) as output:
+        while piece := output.read(PIECE):
+            printed += len(piece)
+    _, status, usage = os.wait4(program, 0)
+    return Run(usage.ru_utime + usage.ru_stime, usage.ru_maxrss, printed, os.waitstatus_to_exitcode(status))
 
 
 def nothing():

@@ -7,6 +7,7 @@ import shutil
 import subprocess
 import sys
 import tempfile
+from contextlib import contextmanager
 from pathlib import Path
 
 ROOT = Path(__file__).resolve().parents[2]
@@ -53,6 +54,17 @@ def temporary_folder(in_memory=False):
     """A temporary folder. It lies in memory where that can be, if its images are written again and again."""
     memory = Path("/dev/shm")
     return tempfile.TemporaryDirectory(dir=memory if in_memory and os.access(memory, os.W_OK) else None)
+
+
+@contextmanager
+def copy_sparse(path):
+    """A copy of an image, whose holes are holes. It is removed at the end."""
+    copy = path.with_suffix(".copy")
+    subprocess.run(["cp", "--sparse=always", path, copy], check=True)
+    try:
+        yield copy
+    finally:
+        copy.unlink()
 
 
 def remove_image(path):
