@@ -15,9 +15,9 @@ set -g __qmeta_commands \
     'edit IMAGE L1INDEX EDIT..:change mappings of one L2 table, and no counter' \
     'count IMAGE CLUSTER STEP..:change counters of one refcount block' \
     'l2 IMAGE CLUSTER_BITS CLUSTER:list one L2 table, whatever the header says' \
-    'help COMMAND:all commands, or one of them in full' \
-    'explain FAULT IMAGE:what a fault means, and where it is in an image' \
-    'version:the version of the program'
+    'help COMMAND:all commands, or what a command prints, with its statuses and faults' \
+    'explain FAULT IMAGE:what fault N means and what helps, or all faults' \
+    'version:the version of this program'
 
 # What may stand at the cursor, as a command's line says it, one a line.
 function __qmeta_kinds

@@ -170,7 +170,7 @@ pub enum Fault {
     L1Short,
 }
 
-/// What sort of fault it is, for a caller that treats faults by their sort.
+/// What kind of fault it is, for a caller that treats faults by their kind.
 #[derive(Clone, Copy, Debug, PartialEq, Eq)]
 pub enum FaultKind {
     /// The image breaks a rule of the format, or an argument a bound.
@@ -181,7 +181,7 @@ pub enum FaultKind {
     Other,
     /// The image's version has no room for what was asked, or the image has a part that isn't read here.
     Unsupported,
-    /// The storage failed, or somebody else uses the image.
+    /// The storage failed, or another process has the image open.
     Storage,
     /// Memory ran out.
     NoMemory,
@@ -190,7 +190,7 @@ pub enum FaultKind {
 impl Fault {
     ghost use Rattle.qcow2_base.specs.Fault.{fault_kind, fault_number, fault_of};
 
-    /// A fault of each number, in the order of numbers. Those that carry something carry 0 or the first value.
+    /// A fault of each number, in order. One that carries a value carries 0, or the first of its kind.
     pub const ALL: [Fault; 41] = [
         Fault::NotQcow2,
         Fault::Version,
@@ -307,7 +307,7 @@ impl Fault {
         }
     }
 
-    /// The fault's sort.
+    /// The fault's kind.
     pub fn kind(&self) -> FaultKind
         ensures { result ≡ fault_kind self.now }
     {

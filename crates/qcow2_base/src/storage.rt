@@ -1,5 +1,5 @@
-//! Where an image's bytes lie: the traits that each layer reads and writes through, a storage in
-//! memory, and one over a file.
+//! Where an image's bytes lie: the traits that each layer reads and writes through, and storages in memory,
+//! over a caller's bytes and over a file.
 
 ghost use Rattle.std.specs.Prelude.{◌≡◌, ℕ, ◌+◌, ◌^◌, ◌<◌, ◌≤◌, length};
 ghost use Rattle.qcow2_base.specs.Format.{max_file_length};
@@ -42,7 +42,8 @@ impl From<StorageFault> for Fault {
 ///
 /// An implementor keeps that count. If no proof shall know the bytes, its `state` has `tells = false`,
 /// `byte_at = λ _. 0` and `len = 0`, and the four laws are a line each. One that shall be known gives its
-/// bytes, as `MemStorage`. A storage over an aligned device copies through buffers of its own.
+/// bytes and their number, as `MemStorage` does. A storage over an aligned device copies through buffers of
+/// its own.
 pub trait Storage {
     /// What the storage says.
     ghost state: { Self → StorageState };
@@ -79,7 +80,7 @@ pub trait Storage {
 }
 
 /// A storage on a device, which may keep what is written in memory for a while, and which may know where the
-/// image ends. What only reads and writes asks for a `Storage`.
+/// image ends. Code that only reads and writes takes a `Storage`.
 pub trait Device: Storage {
     /// Waits until all that was written before is on the device, so that it outlives a crash of the machine.
     /// Changes no byte. After a failure nothing is known of what is on the device. The order in which edits

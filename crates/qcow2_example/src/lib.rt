@@ -1,6 +1,9 @@
-//! A first program with the libraries: the example of the repository's front page.
+//! First programs with the libraries: that of the front page, and one that loads tables by itself.
 #![tactic(auto)]
 
+mod front_page;
+
+pub use front_page::discard_range;
 use qcow2_base::{Fault, FileStorage, GuestOffset};
 use qcow2_metadata::{Header, L1Table, L2Mapping, L2Table, RefBlock, RefTable, Table};
 use qcow2_session::{Edit, Outcome, edit_settled, lookup};

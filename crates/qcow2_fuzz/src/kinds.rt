@@ -1,4 +1,4 @@
-//! The commands, and the faults that each may give, as docs/PROGRAM.md has them.
+//! The commands, and the faults that each may give, as docs/REFERENCE.md has them.
 
 /// A command in one of its forms.
 #[derive(Clone, Copy, PartialEq, Eq)]

@@ -1,4 +1,4 @@
-//! What the lines say that commands print, in the forms that docs/PROGRAM.md has.
+//! What the lines say that commands print, in the forms that docs/REFERENCE.md has.
 
 use qcow2_base::Fault;
 use std::alloc::Global;

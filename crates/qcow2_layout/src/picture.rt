@@ -19,7 +19,7 @@ pub const COLUMNS: usize = 64;
 const SQUARES: usize = 4096;
 
 /// The clusters of an image as at most 4096 squares in rows of 64. Each stands for as many clusters, a power
-/// of two, and has the colour of what strikes most of them. Clauses see it as a record of these.
+/// of two, and has the colour of the most severe content in it. Clauses see it as a record of these.
 #[derive(Drop)]
 pub struct Picture {
     squares: [u8; SQUARES],

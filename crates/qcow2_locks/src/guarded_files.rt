@@ -12,9 +12,9 @@ use std::io;
 use std::io::{ErrorKind, Read, Seek, SeekFrom, Write};
 use std::rt::Files;
 
-/// The files of a run, whose image is open already and may be held. Before the first write to one that is
-/// held, before the first one after each wait for the device, and after each such wait the system's list of
-/// locks is read. A write or a wait fails where another program has the image open by then.
+/// The files of a run, whose image is open already and may be held. The system's list of locks is read before
+/// the first write to a held image, before the first write after each wait for the device, and after each
+/// such wait. A write or a wait fails where another program has the image open by then.
 #[derive(Drop)]
 pub struct GuardedFiles<'a, R, F> {
     rt: &'a R,

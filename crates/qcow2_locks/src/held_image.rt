@@ -47,7 +47,7 @@ impl HeldImage {
         Ok(())
     }
 
-    /// The file of the image, which is open. It shares its position with what was returned before.
+    /// Another handle of the image's open file. All handles share one position.
     pub fn share_file(&self) -> Result<File, Fault>
         ensures faults { IfErr result IsHoldFault }
     {

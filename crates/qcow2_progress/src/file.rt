@@ -6,7 +6,7 @@ use std::io;
 use std::io::{Read, Seek, SeekFrom, Write};
 use std::time::Clock;
 
-/// A file of whose reads a line tells. All else is passed on.
+/// A file whose reads move the progress line. All other calls are passed on.
 #[derive(Drop)]
 pub struct WatchedFile<'a, F, C, E> {
     file: F,
@@ -15,7 +15,7 @@ pub struct WatchedFile<'a, F, C, E> {
 }
 
 impl<'a, F, C, E> WatchedFile<'a, F, C, E> {
-    /// Over an open file, whose first call seeks a place. This line tells of its reads.
+    /// Wraps an open file, whose first call must seek. Its reads move this line.
     pub fn new(file: F, progress: &'a Progress<'a, C, E>) -> WatchedFile<'a, F, C, E> {
         WatchedFile {
             file,

@@ -27,9 +27,9 @@ fn main(rt: HostRuntime) -> ExitCode {
     })
 }
 
-// Does what the words of the command line ask for, and returns the status. The storage fault, with no image
-// opened, where the standard descriptors can't be taken. The image is opened once, and one that is changed is
-// held until the end.
+// Does what the words of the command line ask for, and returns the status. Opens no image and returns the
+// storage fault where the standard descriptors can't be taken. The image is opened once, and one that is
+// changed is held until the end.
 fn run(rt: &HostRuntime) -> Result<u8, Fault> {
     let Ok(_taken) = take_standard_descriptors(rt) else {
         return Err(Fault::Storage);

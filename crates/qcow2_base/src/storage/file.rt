@@ -141,7 +141,7 @@ impl<F: ImageFile> Device for FileStorage<F> {
     }
 }
 
-// What a call of a file comes to, whose failure is counted.
+// The result of a call of a file. A failure is counted.
 fn count<T>(outcome: io::Result<T>, failures: &mut u64) -> Result<T, StorageFault>
     ensures failures { MatchResult result
         (λ _. failures.new ≡ failures.old)
