@@ -27,7 +27,8 @@ MOST_BYTES = 100_000_000
 WRITES = {"write", "pwrite64"}
 OTHERS = {"writev", "pwritev", "pwritev2", "ftruncate", "fallocate", "copy_file_range", "sync_file_range", "sendfile"}
 SYNCS = {"fsync", "fdatasync"}
-CALLS = WRITES | OTHERS | SYNCS | {"openat", "open", "close", "lseek", "dup", "dup2", "dup3", "mmap"}
+DUPLICATES = {"dup", "dup2", "dup3", "fcntl"}
+CALLS = WRITES | OTHERS | SYNCS | DUPLICATES | {"openat", "open", "close", "lseek", "mmap"}
 CALL = re.compile(r"(\w+)\((.*)\) += (-?\d+|0x[0-9a-f]+)")
 
 # The four parts of a run, and where each writes.
@@ -47,6 +48,13 @@ class Write(NamedTuple):
 
     offset: int
     bytes: bytes
+
+
+class Opened:
+    """An open file, and where the next call reads or writes it. Descriptors that were duplicated share it."""
+
+    def __init__(self):
+        self.place = 0
 
 
 class Piece(NamedTuple):
@@ -72,30 +80,36 @@ def text_of(quoted):
     return bytes.fromhex(quoted.strip('"').replace("\\x", ""))
 
 
+def duplicates(call, words):
+    """Whether a call makes another descriptor of an open file: of what `fcntl` does, two commands do."""
+    return call in DUPLICATES and (call != "fcntl" or words[1] in ("F_DUPFD", "F_DUPFD_CLOEXEC"))
+
+
 def parts_of(log, name):
     """The writes to a file of that name between its syncs. The last list is of those after the last sync."""
-    places, parts = {}, [[]]
+    opened, parts = {}, [[]]
     for call, arguments, returned in (found.groups() for found in map(CALL.match, log) if found):
         words = arguments.split(", ")
         if call in ("open", "openat"):
             path = words[0 if call == "open" else 1]
             if text_of(path) == name.encode():
-                places[returned] = 0
+                opened[returned] = Opened()
             continue
-        file = words[4] if call == "mmap" else words[0]
-        if file not in places or returned.startswith("-"):
+        file = opened.get(words[4] if call == "mmap" else words[0])
+        if file is None or returned.startswith("-"):
             continue
-        if call == "close":
-            del places[file]
+        if duplicates(call, words):
+            opened[returned] = file
+        elif call == "close":
+            del opened[words[0]]
         elif call == "lseek":
-            places[file] = int(returned)
+            file.place = int(returned)
         elif call in SYNCS:
             parts.append([])
         elif call in WRITES:
-            place = places[file] if call == "write" else int(words[3])
-            parts[-1].append(Write(place, text_of(words[1])[: int(returned)]))
-            places[file] += int(returned) if call == "write" else 0
-        else:
+            parts[-1].append(Write(file.place if call == "write" else int(words[3]), text_of(words[1])[: int(returned)]))
+            file.place += int(returned) if call == "write" else 0
+        elif call != "fcntl":
             raise ToolFailed(f"the call {call} of the image isn't understood")
     return parts
 
