@@ -1,9 +1,9 @@
-//! The fields of a number: some of its bits, as a number of their own.
+//! Bit fields of a number.
 
 ghost use Rattle.std.specs.Prelude.{◌≡◌, ◌^◌, ◌<◌};
 ghost use Rattle.qcow2_base.specs.Bits as spec;
 
-/// The `count` bits of a number from bit `first` on. Bit 0 is the lowest.
+/// Returns the `count` bits of a number from bit `first` on, as a number. Bit 0 is the lowest.
 #[inline]
 pub fn field(value: u64, first: u32, count: u32) -> u64
     requires first { first < 64 }

@@ -1,4 +1,4 @@
-//! Why a call refuses: one fault for each rule of the format or of a call, with a number and a kind.
+//! Faults: one for each rule of the format or of a call, with a number and a kind.
 
 ghost use Rattle.std.specs.Prelude.{◌≡◌, ◌<◌, Some, IfSome, IsSome};
 ghost use Rattle.qcow2_base.specs.declared.fault.Fault.TheVariants.{NoMemory};
@@ -7,7 +7,7 @@ use std::alloc::{AllocError, AllocFailed};
 use std::fmt;
 use thiserror::Error;
 
-/// A field of the header that two views of one image must agree on.
+/// A header field that must be the same in two headers of one image.
 #[derive(Clone, Copy, Debug, PartialEq, Eq)]
 pub enum Field {
     Magic,
@@ -28,7 +28,7 @@ pub enum Field {
     ExternalData,
 }
 
-/// The name that the qcow2 format has for the field.
+/// The field's name in the qcow2 format.
 impl fmt::Display for Field {
     ghost use Rattle.qcow2_base.specs.Fault.{field_name};
 
@@ -56,7 +56,7 @@ impl fmt::Display for Field {
     }
 }
 
-/// A part of an image that refers to clusters, and that isn't read here.
+/// A part of an image that refers to clusters and that these crates don't read.
 #[derive(Clone, Copy, Debug, PartialEq, Eq)]
 pub enum UncountedPart {
     Snapshots,
@@ -64,7 +64,7 @@ pub enum UncountedPart {
     Encryption,
 }
 
-/// What the part is.
+/// The part's name.
 impl fmt::Display for UncountedPart {
     ghost use Rattle.qcow2_base.specs.Fault.{part_name};
 
@@ -79,11 +79,11 @@ impl fmt::Display for UncountedPart {
     }
 }
 
-/// Why a call refused. Each fault belongs to one rule; the message says what the rule expects. A fault's
-/// number is its place in this list, from 1 on.
+/// The reason for a refusal. Each fault belongs to one rule; the message says what the rule expects. A
+/// fault's number is its position in this list, from 1 on.
 ///
-/// A call over a storage may return `Storage` (34), and one that takes memory `NoMemory` (35), also where its
-/// own documentation names neither.
+/// Any call over a storage may return `Storage` (34), and any call that allocates `NoMemory` (35), even if
+/// its documentation names neither.
 #[derive(Clone, Copy, Debug, PartialEq, Eq, Error)]
 pub enum Fault {
     #[error("not a qcow2 image: the magic must be 0x514649fb")]
@@ -170,16 +170,16 @@ pub enum Fault {
     L1Short,
 }
 
-/// What kind of fault it is, for a caller that treats faults by their kind.
+/// The kind of a fault, for callers that treat faults by kind.
 #[derive(Clone, Copy, Debug, PartialEq, Eq)]
 pub enum FaultKind {
-    /// The image breaks a rule of the format, or an argument a bound.
+    /// The image breaks a rule of the format, or an argument is out of bounds.
     InvalidData,
-    /// The caller asked for something that can't be done.
+    /// The caller asked for something impossible.
     InvalidInput,
-    /// The image or a value is in a state that does not allow the call.
+    /// The state of the image or of a value doesn't allow the call.
     Other,
-    /// The image's version has no room for what was asked, or the image has a part that isn't read here.
+    /// The image's version doesn't support the request, or the image has a part that these crates don't read.
     Unsupported,
     /// The storage failed, or another process has the image open.
     Storage,
@@ -190,7 +190,7 @@ pub enum FaultKind {
 impl Fault {
     ghost use Rattle.qcow2_base.specs.Fault.{fault_kind, fault_number, fault_of};
 
-    /// A fault of each number, in order. One that carries a value carries 0, or the first of its kind.
+    /// One fault of each number, in order. A fault with a value has 0, or the first value of its type.
     pub const ALL: [Fault; 41] = [
         Fault::NotQcow2,
         Fault::Version,
@@ -235,7 +235,7 @@ impl Fault {
         Fault::L1Short,
     ];
 
-    /// The fault of a number in `Fault::ALL`, if there is one.
+    /// Returns the fault of a number as `Fault::ALL` has it, or `None` for any other number.
     pub fn of_number(number: u64) -> Option<Fault>
         ensures listed { result ≡ fault_of number }
         ensures named { IfSome result (λ fault. fault_number fault ≡ number) }
@@ -332,7 +332,7 @@ impl Fault {
     }
 }
 
-/// A refused allocation, as `?` passes it on.
+/// Converts a failed allocation, for `?`.
 impl From<AllocError> for Fault {
     ghost from_gives = { λ _ fault. fault ≡ NoMemory };
 
@@ -341,7 +341,7 @@ impl From<AllocError> for Fault {
     }
 }
 
-/// A refused allocation that hands back what it could not keep, which is dropped here.
+/// Converts a failed allocation that returns the value it had no room for. Drops that value.
 impl<T: Drop> From<AllocFailed<T>> for Fault {
     ghost from_gives = { λ _ fault. fault ≡ NoMemory };
 

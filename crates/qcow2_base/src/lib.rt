@@ -1,4 +1,4 @@
-//! What the layers of a qcow2 library share: faults, storages, offsets and clusters.
+//! The base of all qcow2 crates: faults, storages, offsets and clusters.
 #![tactic(auto)]
 
 mod bits;

@@ -1,4 +1,4 @@
-//! Structures of a fixed layout on the disk: loading them from bytes, and storing them into bytes.
+//! Structures with a fixed layout on the disk: loads them from bytes, and stores them into bytes.
 
 ghost use Rattle.std.specs.Prelude.{◌≡◌, ℕ, ◌+◌, ◌≤◌, Bool, List, length, is_ok, IfOk, OnOk, OnErr, IsOkUnless};
 ghost use Rattle.qcow2_base.specs.Storage.{Image, image_of};
@@ -16,39 +16,39 @@ pub use v3_header_base::V3HeaderBase;
 
 /// A value that has a fixed layout on the disk.
 ///
-/// An integer has no order of bytes of its own, and needs a buffer of exactly its length. A
-/// structure is loaded and stored in its own order by all calls, and needs a buffer at least as long
-/// as itself. Bytes that belong to no field are neither looked at nor changed.
+/// An integer has no byte order of its own, and its buffer must have exactly its length. A structure has one
+/// byte order in all calls, and its buffer must have at least its length. Calls neither read nor change bytes
+/// that belong to no field.
 pub trait OnDiskStruct: Sized {
     /// The length on the disk, in bytes.
     const ON_DISK_SIZE: usize;
 
     ghost ON_DISK_SIZE: { ℕ };
 
-    /// Whether a buffer may be no longer than that.
+    /// Whether the buffer must have exactly that length.
     ghost exact: { Bool };
 
-    /// The fields, where this order is asked for.
+    /// The fields in this byte order.
     ghost layout: { Order → Self → List LayoutField };
 
-    /// The value at the start of the bytes, little-endian where it has no order of its
-    /// own.
+    /// Returns the value at the start of the bytes, little-endian unless the type has its own byte order.
+    /// Returns `WrongLength` for a buffer of a wrong length.
     fn load_from_le(bytes: &[u8]) -> Result<Self, Fault>
         ensures ok { is_ok result ≡ is_right_length exact ON_DISK_SIZE (length bytes.now) }
         ensures err { IsOkUnless result Fault.WrongLength }
         ensures loaded { IfOk result (λ value.
             HoldsLayout (image_of bytes.now) (layout Little value)) };
 
-    /// The value at the start of the bytes, big-endian where it has no order of its
-    /// own.
+    /// Returns the value at the start of the bytes, big-endian unless the type has its own byte order.
+    /// Returns `WrongLength` for a buffer of a wrong length.
     fn load_from_be(bytes: &[u8]) -> Result<Self, Fault>
         ensures ok { is_ok result ≡ is_right_length exact ON_DISK_SIZE (length bytes.now) }
         ensures err { IsOkUnless result Fault.WrongLength }
         ensures loaded { IfOk result (λ value.
             HoldsLayout (image_of bytes.now) (layout Big value)) };
 
-    /// Writes the value to the start of the bytes, little-endian where it has no order of its own.
-    /// Into a buffer of a wrong length nothing is written.
+    /// Writes the value to the start of the bytes, little-endian unless the type has its own byte order.
+    /// Returns `WrongLength` for a buffer of a wrong length, and leaves it unchanged.
     fn store_to_le(&self, bytes: &mut [u8]) -> Result<(), Fault>
         ensures ok { is_ok result ≡ is_right_length exact ON_DISK_SIZE (length bytes.old) }
         ensures err { IsOkUnless result Fault.WrongLength }
@@ -56,8 +56,8 @@ pub trait OnDiskStruct: Sized {
             (Stores (layout Little self.now) (image_of bytes.old) (image_of bytes.new)) }
         ensures unchanged { OnErr result (bytes.new ≡ bytes.old) };
 
-    /// Writes the value to the start of the bytes, big-endian where it has no order of its own. Into
-    /// a buffer of a wrong length nothing is written.
+    /// Writes the value to the start of the bytes, big-endian unless the type has its own byte order. Returns
+    /// `WrongLength` for a buffer of a wrong length, and leaves it unchanged.
     fn store_to_be(&self, bytes: &mut [u8]) -> Result<(), Fault>
         ensures ok { is_ok result ≡ is_right_length exact ON_DISK_SIZE (length bytes.old) }
         ensures err { IsOkUnless result Fault.WrongLength }
@@ -65,8 +65,8 @@ pub trait OnDiskStruct: Sized {
             (Stores (layout Big self.now) (image_of bytes.old) (image_of bytes.new)) }
         ensures unchanged { OnErr result (bytes.new ≡ bytes.old) };
 
-    /// The value at the start of the bytes, in its own order, or else in that of the
-    /// machine, little-endian.
+    /// Returns the value at the start of the bytes, in the type's own byte order or else the machine's,
+    /// little-endian. Returns `WrongLength` for a buffer of a wrong length.
     #[inline]
     final fn load_from(bytes: &[u8]) -> Result<Self, Fault>
         ensures ok { is_ok result ≡ is_right_length exact ON_DISK_SIZE (length bytes.now) }
@@ -77,8 +77,8 @@ pub trait OnDiskStruct: Sized {
         Self::load_from_le(bytes)
     }
 
-    /// Writes the value to the start of the bytes, in its own order, or else in that of the machine,
-    /// little-endian. Into a buffer of a wrong length nothing is written.
+    /// Writes the value to the start of the bytes, in the type's own byte order or else the machine's,
+    /// little-endian. Returns `WrongLength` for a buffer of a wrong length, and leaves it unchanged.
     #[inline]
     final fn store_to(&self, bytes: &mut [u8]) -> Result<(), Fault>
         ensures ok { is_ok result ≡ is_right_length exact ON_DISK_SIZE (length bytes.old) }
@@ -94,14 +94,14 @@ pub trait OnDiskStruct: Sized {
     ghost size_is_end: { (order : Order) (value : Self) →
         layout_end (layout order value) ≡ ON_DISK_SIZE };
 
-    /// The bytes determine the value: what is loaded where a value was stored is that value.
+    /// The bytes determine the value: loading a stored value returns it.
     ghost loads_back: { (order : Order) (image : Image) (a b : Self) →
         HoldsLayout image (layout order a) → HoldsLayout image (layout order b) → a ≡ b };
 }
 
-/// The length of a value that is at hand.
+/// The length on the disk, by a value instead of its type.
 ///
-/// A trait of its own, since a method may not have a constant's name in small letters.
+/// This is a trait of its own, since a method of `OnDiskStruct` may not have a constant's name in lower case.
 pub trait OnDiskSize: OnDiskStruct {
     /// The length on the disk, in bytes.
     #[inline]
@@ -114,7 +114,7 @@ pub trait OnDiskSize: OnDiskStruct {
 
 impl<T: OnDiskStruct> OnDiskSize for T {}
 
-/// The value at the place, big-endian where it has no order of its own.
+/// Returns the value at the place, big-endian unless the type has its own byte order.
 #[inline]
 pub fn read_be<T: OnDiskStruct>(bytes: &[u8], place: usize) -> T
     requires { place + T.ON_DISK_SIZE ≤ length bytes.now }
@@ -123,7 +123,7 @@ pub fn read_be<T: OnDiskStruct>(bytes: &[u8], place: usize) -> T
     T::load_from_be(&bytes[place..place + T::ON_DISK_SIZE]).unwrap()
 }
 
-/// The value at the place, little-endian where it has no order of its own.
+/// Returns the value at the place, little-endian unless the type has its own byte order.
 #[inline]
 pub fn read_le<T: OnDiskStruct>(bytes: &[u8], place: usize) -> T
     requires { place + T.ON_DISK_SIZE ≤ length bytes.now }
@@ -132,7 +132,7 @@ pub fn read_le<T: OnDiskStruct>(bytes: &[u8], place: usize) -> T
     T::load_from_le(&bytes[place..place + T::ON_DISK_SIZE]).unwrap()
 }
 
-/// Writes the value to the place, big-endian where it has no order of its own.
+/// Writes the value to the place, big-endian unless the type has its own byte order.
 #[inline]
 pub fn write_be<T: OnDiskStruct>(bytes: &mut [u8], place: usize, value: &T)
     requires { place + T.ON_DISK_SIZE ≤ length bytes.old }
@@ -144,7 +144,7 @@ pub fn write_be<T: OnDiskStruct>(bytes: &mut [u8], place: usize, value: &T)
         .unwrap()
 }
 
-/// Writes the value to the place, little-endian where it has no order of its own.
+/// Writes the value to the place, little-endian unless the type has its own byte order.
 #[inline]
 pub fn write_le<T: OnDiskStruct>(bytes: &mut [u8], place: usize, value: &T)
     requires { place + T.ON_DISK_SIZE ≤ length bytes.old }

@@ -1,8 +1,8 @@
-//! Offsets, clusters and counts, each a type of its own, and the conversions between them.
+//! Types for offsets, clusters and counts, and conversions between them.
 //!
-//! A cluster has `2^cluster_bits` bytes, and an L2 table an eighth as many entries, one for each
-//! guest cluster. A refcount block has `2^rb_bits` counters, one for each host cluster. Each call
-//! asks for `cluster_bits` from 9 to 21, or `rb_bits` from 6 to 24, and for a result that fits.
+//! A cluster has `2^cluster_bits` bytes, and an L2 table an eighth as many entries, one for each guest
+//! cluster. A refcount block has `2^rb_bits` refcounts, one for each host cluster. Each call requires
+//! `cluster_bits` from 9 to 21, or `rb_bits` from 6 to 24, and a result that fits.
 
 ghost use Rattle.std.specs.Prelude.{◌≡◌, ◌+◌, ◌-◌, ◌*◌, ◌/◌, ◌%◌, ◌^◌, ◌<◌, ◌≤◌, Some, None, if◌then◌else◌, ◌==◌};
 ghost use Rattle.std.specs.Fmt.{decimal};
@@ -15,19 +15,19 @@ mod host;
 use std::fmt;
 use std::ops::{Add, AddAssign, Sub, SubAssign};
 
-/// A byte's place on the guest's disk.
+/// The offset of a byte on the guest's disk.
 #[derive(Clone, Copy, Debug, PartialEq, Eq, PartialOrd, Ord, Hash)]
 pub struct GuestOffset(pub u64);
 
-/// A cluster's number on the guest's disk.
+/// The number of a cluster on the guest's disk.
 #[derive(Clone, Copy, Debug, PartialEq, Eq, PartialOrd, Ord, Hash)]
 pub struct GuestCluster(pub u64);
 
-/// A byte's place in the image or in its external data file.
+/// The offset of a byte in the image or in its external data file.
 #[derive(Clone, Copy, Debug, PartialEq, Eq, PartialOrd, Ord, Hash)]
 pub struct HostOffset(pub u64);
 
-/// A cluster's number in the image or in its external data file.
+/// The number of a cluster in the image or in its external data file.
 #[derive(Clone, Copy, Debug, PartialEq, Eq, PartialOrd, Ord, Hash)]
 pub struct HostCluster(pub u64);
 
@@ -36,7 +36,7 @@ pub struct HostCluster(pub u64);
 pub struct ClusterCount(pub u64);
 
 impl ClusterCount {
-    /// How many clusters `size` bytes take, the last of them perhaps in part.
+    /// Returns the number of clusters that `size` bytes take, rounded up.
     #[inline]
     pub fn from_byte_size(size: u64, cluster_bits: u32) -> ClusterCount
         requires { IsClusterBits cluster_bits }
@@ -45,7 +45,7 @@ impl ClusterCount {
         ClusterCount(size.div_ceil(1 << cluster_bits))
     }
 
-    /// How many clusters `size` bytes fill, if they fill each of them.
+    /// Returns the number of clusters of `size` bytes, or `None` if the last one is partial.
     #[inline]
     pub fn checked_from_byte_size(size: u64, cluster_bits: u32) -> Option<ClusterCount>
         requires { IsClusterBits cluster_bits }
@@ -55,7 +55,7 @@ impl ClusterCount {
         (size % (1 << cluster_bits) == 0).then_some(ClusterCount(size >> cluster_bits))
     }
 
-    /// How many bytes this number of clusters has.
+    /// Returns the size of these clusters in bytes.
     #[inline]
     pub fn byte_size(self, cluster_bits: u32) -> u64
         requires bits { IsClusterBits cluster_bits }
@@ -114,7 +114,7 @@ impl SubAssign<ClusterCount> for ClusterCount {
     }
 }
 
-/// Decimal.
+/// Prints decimal digits.
 impl fmt::Display for ClusterCount {
     ghost output = { λ count. Some (decimal count.0) };
 

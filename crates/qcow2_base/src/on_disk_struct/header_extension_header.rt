@@ -1,4 +1,4 @@
-//! What comes before the data of a header extension.
+//! The type and length before the data of a header extension.
 
 ghost use Rattle.std.specs.Prelude.{false, refl};
 ghost use Rattle.std.proofs.Common.{rules};
@@ -9,9 +9,9 @@ use crate::Fault;
 /// The 8 bytes before the data of a header extension.
 #[derive(Clone, Copy, Debug, PartialEq, Eq)]
 pub struct HeaderExtensionHeader {
-    /// What the data is, 0 for the end of the extensions.
+    /// The type of the data; 0 ends the extensions.
     pub extension_type: u32,
-    /// How many bytes the data has, without its padding to a multiple of 8.
+    /// The length of the data in bytes, without its padding to a multiple of 8.
     pub length: u32,
 }
 

@@ -1,4 +1,4 @@
-//! The part of the header that each version has.
+//! The part of the header that both versions have.
 
 ghost use Rattle.std.specs.Prelude.{false, refl};
 ghost use Rattle.std.proofs.Common.{rules};
@@ -6,34 +6,34 @@ ghost use Rattle.std.proofs.Common.{rules};
 use super::{OnDiskStruct, read_be, write_be};
 use crate::Fault;
 
-/// The first 72 bytes of an image: the part of the header that each version has.
+/// The first 72 bytes of an image: the part of the header that both versions have.
 #[derive(Clone, Copy, Debug, PartialEq, Eq)]
 pub struct V2Header {
     /// 0x514649fb.
     pub magic: u32,
     /// 2 or 3.
     pub version: u32,
-    /// Where the backing file's name begins, 0 for none.
+    /// The offset of the backing file's name, or 0 for none.
     pub backing_file_offset: u64,
-    /// How many bytes the backing file's name has.
+    /// The length of the backing file's name, in bytes.
     pub backing_file_size: u32,
     /// A cluster has `2^cluster_bits` bytes.
     pub cluster_bits: u32,
     /// The size of the guest's disk, in bytes.
     pub size: u64,
-    /// The kind of encryption, 0 for none.
+    /// The encryption method, 0 for none.
     pub crypt_method: u32,
-    /// How many entries the L1 table has.
+    /// The number of entries of the L1 table.
     pub l1_size: u32,
-    /// Where the L1 table begins.
+    /// The offset of the L1 table.
     pub l1_table_offset: u64,
-    /// Where the refcount table begins.
+    /// The offset of the refcount table.
     pub refcount_table_offset: u64,
-    /// How many clusters the refcount table takes.
+    /// The number of clusters of the refcount table.
     pub refcount_table_clusters: u32,
-    /// How many snapshots the image has.
+    /// The number of snapshots.
     pub nb_snapshots: u32,
-    /// Where the table of snapshots begins.
+    /// The offset of the snapshot table.
     pub snapshots_offset: u64,
 }
 

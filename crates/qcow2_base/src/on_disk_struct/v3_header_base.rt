@@ -6,22 +6,22 @@ ghost use Rattle.std.proofs.Common.{rules};
 use super::{OnDiskStruct, V2Header, read_be, write_be};
 use crate::Fault;
 
-/// The 32 bytes that follow in an image of version 3.
+/// The 32 bytes after the `V2Header` in an image of version 3.
 #[derive(Clone, Copy, Debug, PartialEq, Eq)]
 pub struct V3HeaderBase {
-    /// A bit for each feature without which the image can't be opened.
+    /// A bit for each feature that a program must know to open the image.
     pub incompatible_features: u64,
-    /// A bit for each feature that can be left aside.
+    /// A bit for each feature that a program may ignore.
     pub compatible_features: u64,
-    /// A bit for each feature that a program which doesn't know it clears before it writes.
+    /// A bit for each feature that a program must clear before it writes, unless it knows the feature.
     pub autoclear_features: u64,
     /// A refcount has `2^refcount_order` bits.
     pub refcount_order: u32,
-    /// How many bytes the header has, without its extensions.
+    /// The length of the header in bytes, without its extensions.
     pub header_length: u32,
 }
 
-/// Of a new image: no features, with refcounts of 16 bits.
+/// The fields of a new image: no features, and refcounts of 16 bits.
 impl Default for V3HeaderBase {
     ghost is_default = { λ header. header ≡ record {
       incompatible_features = 0;

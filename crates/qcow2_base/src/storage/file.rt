@@ -14,8 +14,8 @@ use std::io;
 use std::io::{ErrorKind, Read, Seek, Write};
 use std::rt::Files;
 
-/// An image in a file. Its bytes are known where those of the file are, and of a file of the system they
-/// aren't. Both alignments are 1.
+/// An image in a file. Proofs know its bytes if they know the file's, and those of a file of the system they
+/// don't. Both alignments are 1.
 #[derive(Debug, Drop)]
 pub struct FileStorage<F = File> {
     file: F,
@@ -23,7 +23,7 @@ pub struct FileStorage<F = File> {
 }
 
 impl<F> FileStorage<F> {
-    /// A storage over an open file.
+    /// Returns a storage over an open file.
     pub fn new(file: F) -> FileStorage<F>
         ensures file { file_of result ≡ file }
         ensures failures { failures_of result ≡ 0 }
@@ -31,14 +31,14 @@ impl<F> FileStorage<F> {
         FileStorage { file, failures: 0 }
     }
 
-    /// How many calls have failed so far, modulo 2^64.
+    /// Returns the number of failed calls so far, modulo 2^64.
     pub fn failures(&self) -> u64
         ensures { result ≡ failures_of self.now }
     {
         self.failures
     }
 
-    /// The open file.
+    /// Returns the open file.
     pub fn into_file(self) -> F
         ensures { result ≡ file_of self }
     {
@@ -47,8 +47,8 @@ impl<F> FileStorage<F> {
 }
 
 impl<F: Read + Write + Seek + OpenFile + Drop> FileStorage<F> {
-    /// Opens a file that is there, for reading or for both; it creates none. Returns the storage
-    /// fault whatever the cause, for a directory too.
+    /// Opens an existing file for reading, or for reading and writing; creates none. Any failure is the
+    /// storage fault (34), and so is a directory.
     pub fn open<R: Files<File = F>>(
         rt: &R,
         path: &str,
@@ -70,7 +70,7 @@ fn open_file<R: Files>(rt: &R, path: &str, writable: bool) -> io::Result<R::File
     Ok(file)
 }
 
-// Reading, and writing where it is asked for. Nothing is created or cut.
+// Options to read, and to write if `writable`; they create and truncate nothing.
 fn access(writable: bool) -> OpenOptions
     ensures { result ≡ with_write (with_read new_options true) writable }
 {
@@ -107,7 +107,7 @@ impl<F: ImageFile> Storage for FileStorage<F> {
         count(read_all(&mut self.file, buf, offset), &mut self.failures)
     }
 
-    /// An empty write succeeds and asks nothing of the file.
+    /// An empty write succeeds without a call of the file.
     fn write(&mut self, buf: &[u8], offset: u64) -> Result<(), StorageFault>
         requires { offset + length buf.now ≤ max_file_length }
         ensures bytes { WritesBytes result offset buf.now
@@ -127,7 +127,7 @@ impl<F: ImageFile> Storage for FileStorage<F> {
 }
 
 impl<F: ImageFile> Device for FileStorage<F> {
-    /// Asks the file for it.
+    /// Syncs the file.
     fn sync(&mut self) -> Result<(), StorageFault>
         ensures { ChangesNoByte result (file_state F.content self.old) (file_state F.content self.new) }
     {
@@ -141,7 +141,7 @@ impl<F: ImageFile> Device for FileStorage<F> {
     }
 }
 
-// The result of a call of a file. A failure is counted.
+// Converts the result of a call of the file, and counts a failure.
 fn count<T>(outcome: io::Result<T>, failures: &mut u64) -> Result<T, StorageFault>
     ensures failures { MatchResult result
         (λ _. failures.new ≡ failures.old)
@@ -157,8 +157,8 @@ fn count<T>(outcome: io::Result<T>, failures: &mut u64) -> Result<T, StorageFaul
     }
 }
 
-// Fills the buffer with the bytes from `offset` on, and with zeros past the end. A file that gives no more
-// bytes before its end fails.
+// Fills the buffer with the bytes from `offset` on, and with zeros past the end. Fails if the file returns no
+// more bytes before its end.
 fn read_all<F: ImageFile>(file: &mut F, buf: &mut [u8], offset: u64) -> io::Result<()>
     requires { offset + length buf.old ≤ max_file_length }
     ensures bytes { OnOk result (OnFile (F.content file.old)
@@ -174,7 +174,7 @@ fn read_all<F: ImageFile>(file: &mut F, buf: &mut [u8], offset: u64) -> io::Resu
     Ok(())
 }
 
-// Fails where the file is longer.
+// Fails if the file is longer than `len` bytes.
 fn refuse_longer<F: ImageFile>(file: &mut F, len: u64) -> io::Result<()>
     ensures { F.content file.new ≡ F.content file.old }
 {
@@ -184,7 +184,7 @@ fn refuse_longer<F: ImageFile>(file: &mut F, len: u64) -> io::Result<()>
     }
 }
 
-// Reads until the buffer is full or the file gives no more, and returns how many bytes it gave.
+// Reads until the buffer is full or the file returns no more bytes, and returns how many it read.
 fn read_up_to_end<F: ImageFile>(file: &mut F, buf: &mut [u8], offset: u64) -> io::Result<usize>
     requires { offset + length buf.old ≤ max_file_length }
     ensures count { IfOk result (λ count. count ≤ length buf.new) }
@@ -212,7 +212,7 @@ fn read_up_to_end<F: ImageFile>(file: &mut F, buf: &mut [u8], offset: u64) -> io
     Err(ErrorKind::Interrupted.into())
 }
 
-// Replaces the bytes from `offset` on. No bytes leave the file as it is.
+// Replaces the bytes from `offset` on by the buffer's. An empty buffer leaves the file unchanged.
 fn write_all<F: ImageFile>(file: &mut F, buf: &[u8], offset: u64) -> io::Result<()>
     requires { offset + length buf.now ≤ max_file_length }
     ensures written { OnOk result (OnFile (F.content file.old)

@@ -1,4 +1,4 @@
-//! Files that images lie in: reads and writes at an offset.
+//! Image files: reads and writes at an offset.
 
 ghost use Rattle.std.specs.Prelude.{◌≡◌, ℕ, ◌^◌, ◌<◌, ◌≤◌, IsTrue, refl};
 ghost use Rattle.std.proofs.Common.{rules};
@@ -8,34 +8,34 @@ use std::fs::OpenFile;
 use std::io;
 use std::io::{ErrorKind, Read, Seek, SeekFrom, Write};
 
-/// A file that an image lies in, by calls that say where they read and write.
+/// A file that holds an image, with reads and writes at an offset.
 ///
-/// An implementor says what is known of the file. A file in memory knows its bytes. Of a file of the system
-/// nothing is known, since what it holds is outside any proof. What is proved over files whose bytes are
-/// known holds of one of the system too, where that behaves as this trait says. Then it is a list of bytes,
-/// which reads return and writes replace, and nobody else writes to it.
+/// The implementor says what proofs know of the file. Of a file in memory they know the bytes; of a file of
+/// the system they know nothing, since its content is outside any proof. A proof over files with known bytes
+/// also holds for a file of the system that behaves as this trait says: it is a list of bytes, which reads
+/// return and writes replace, and nobody else writes to it.
 pub trait ImageFile {
-    /// What is known of the file.
+    /// The file's content, as far as proofs know it.
     ghost content: { Self → FileContent };
 
-    /// Fills the front of the buffer with the bytes from `offset` on, and returns how many it has filled: 0
-    /// only past the file's end, or where the buffer is empty. It may be fewer than there are. After a
-    /// failure nothing is known of the buffer.
+    /// Fills the front of the buffer with the bytes from `offset` on, and returns how many it filled: 0 only
+    /// past the file's end or for an empty buffer. It may fill fewer than the file has. A failure leaves the
+    /// buffer undefined.
     fn read_at(&mut self, buf: &mut [u8], offset: u64) -> io::Result<usize>
         ensures { ReadsSome result offset buf.new (content self.old) (content self.new) };
 
-    /// Replaces the bytes from `offset` on by the first of these, and returns how many it wrote. No other
-    /// byte changes. A write past the end lengthens the file, with zeros between. After a failure any bytes
-    /// may be in the range of all of them, and nothing is known of the length.
+    /// Replaces the bytes from `offset` on by the first bytes of the buffer, and returns how many it wrote.
+    /// No other byte changes. A write past the end lengthens the file, with zeros between. A failure may
+    /// leave any bytes in the range of the whole buffer, and any length.
     fn write_at(&mut self, buf: &[u8], offset: u64) -> io::Result<usize>
         ensures { WritesSome result offset buf.now (content self.old) (content self.new) };
 
-    /// How long the file is, in bytes, or `None` where it has no end that is known, as a pipe. Changes no
-    /// byte, also where it fails.
+    /// Returns the length of the file in bytes, or `None` if it has no known end, as a pipe. Changes no byte,
+    /// even if it fails.
     fn file_len(&mut self) -> io::Result<Option<u64>>
         ensures { TellsLength result (content self.old) (content self.new) };
 
-    /// Waits until all that was written before is on the device. Changes no byte, also where it fails.
+    /// Waits until all earlier writes are on the device. Changes no byte, even if it fails.
     fn sync_bytes(&mut self) -> io::Result<()>
         ensures { content self.new ≡ content self.old };
 
@@ -45,11 +45,11 @@ pub trait ImageFile {
         (content file).byte_at offset ≡ 0 };
 }
 
-/// Any file that is read and written at its position. Nothing is known of it.
+/// Any file that reads and writes at its position. Proofs know nothing of it.
 impl<F: Read + Write + Seek + OpenFile> ImageFile for F {
     ghost content = { λ _. unknown_content };
 
-    /// A place past the end may be one that a file system refuses.
+    /// A file system may refuse to seek to an offset past the end; the call then returns 0.
     fn read_at(&mut self, buf: &mut [u8], offset: u64) -> io::Result<usize> {
         match self.seek(SeekFrom::Start(offset)) {
             Ok(_) => self.read(buf),
@@ -69,7 +69,7 @@ impl<F: Read + Write + Seek + OpenFile> ImageFile for F {
         Ok(count)
     }
 
-    /// The length is sought for, so that a block device has one too. What can't be sought, as a pipe, has
+    /// Seeks to the end, so that a block device has a length too. A file that can't seek, as a pipe, has
     /// none.
     fn file_len(&mut self) -> io::Result<Option<u64>> {
         match self.seek(SeekFrom::End(0)) {
@@ -79,7 +79,7 @@ impl<F: Read + Write + Seek + OpenFile> ImageFile for F {
         }
     }
 
-    /// Asks the file for it. A file system may hold back what a file says of itself, such as its times.
+    /// Syncs the file's data. A file system may hold back its metadata, such as times.
     fn sync_bytes(&mut self) -> io::Result<()> {
         self.sync_data()
     }

@@ -1,4 +1,4 @@
-//! Files that images lie in, by path.
+//! Image files by path.
 
 ghost use Rattle.std.specs.Prelude.{◌≡◌, ℕ, false, List, IsOkUnless};
 ghost use Rattle.qcow2_base.specs.Storage.ImageFiles.{ClosesImage, OpensImage, PathFile, unknown_file};
@@ -8,33 +8,33 @@ use super::{FileStorage, ImageFile};
 use crate::Fault;
 use std::fs::File;
 
-/// Opens the files that images lie in, and closes them.
+/// Opens and closes image files by path.
 ///
-/// An implementor says what is known of the file of each path: nothing, where it opens files of the system. A
-/// file whose bytes are known is a regular one. What is written to an open file is known of its path once it
-/// is closed here. Who is generic over these can't drop an open file, as its type asks for no `Drop`, and has
-/// to close it.
+/// The implementor says what proofs know of each path's file: nothing, if it opens files of the system. A
+/// file with known bytes is a regular one. Proofs know a write to an open file by the path once this trait
+/// closes the file. The type of an open file has no `Drop` bound, so generic code can't drop it and must
+/// close it.
 ///
-/// Two paths may be names of one file. Then a call for the one may change what is known of the other too.
+/// Two paths may name one file. A call for one path may then change what proofs know of the other.
 pub trait ImageFiles {
     /// An open file.
     type Image: ImageFile;
 
-    /// What is known of the file of a path, by the bytes of that.
+    /// What proofs know of the file of a path, given as its bytes.
     ghost file_at: { Self → List ℕ → PathFile };
 
-    /// Opens the file of a path, for reading or for both. It must be there, and no directory. Changes no
-    /// byte. Returns the storage fault whatever the cause.
+    /// Opens the file of a path for reading, or for reading and writing. It must exist and be no directory.
+    /// Changes no byte. Any failure is the storage fault (34).
     fn open_image(&mut self, path: &str, writable: bool) -> Result<FileStorage<Self::Image>, Fault>
         ensures fault { IsOkUnless result Fault.Storage }
         ensures opens { OpensImage Self.Image.content result path.now (file_at self.old) (file_at self.new) };
 
-    /// Closes an open file by a path. From then on the path's file has its bytes.
+    /// Closes an open file under a path. The path's file then has its bytes.
     fn close_image(&mut self, path: &str, image: FileStorage<Self::Image>)
         ensures { ClosesImage Self.Image.content image path.now (file_at self.old) (file_at self.new) };
 
-    /// Whether another program has come to the file of a path while that was open here, so that calls of it
-    /// fail. Nobody else has a file whose bytes are known.
+    /// Whether another program has opened the file of a path since it was opened here, so that calls of the
+    /// file fail. Never true of a file with known bytes, which nobody else opens.
     fn is_in_use(&self, path: &str) -> bool
         ensures { OnFile (file_at self.now path.now).content (result ≡ false) }
     {

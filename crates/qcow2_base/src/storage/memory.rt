@@ -10,7 +10,7 @@ ghost use Rattle.std.proofs.lemmas.List.{get_or_past};
 use super::{Device, Storage, StorageFault};
 use std::alloc::AllocError;
 
-/// An image in memory. Its bytes are known, and it fails only where it can't grow.
+/// An image in memory. Proofs know its bytes. Only a write that can't lengthen it fails.
 #[derive(Debug, Drop)]
 pub struct MemStorage {
     bytes: Vec<u8>,
@@ -23,7 +23,7 @@ pub struct MemStorage {
 impl MemStorage {
     ghost use Rattle.qcow2_base.specs.Storage.Memory.{memory_bytes, memory_state, alignment};
 
-    /// An image of these bytes, with both alignments 1. It keeps the vector's allocator.
+    /// Returns an image of these bytes, with both alignments 1. It keeps the vector's allocator.
     pub fn new(bytes: Vec<u8>) -> MemStorage
         ensures bytes { memory_bytes result ≡ bytes.items }
         ensures align { alignment result ≡ 1 }
@@ -36,7 +36,7 @@ impl MemStorage {
         }
     }
 
-    /// The same image with this value for both alignments, in bytes.
+    /// Returns the same image with both alignments set to `align` bytes.
     pub fn with_align(self, align: usize) -> MemStorage
         requires { IsPowerOfTwo align }
         ensures bytes { memory_bytes result ≡ memory_bytes self }
@@ -50,7 +50,7 @@ impl MemStorage {
         }
     }
 
-    /// The image's bytes, up to its end.
+    /// Returns the image's bytes, up to its end.
     pub fn bytes(&self) -> &[u8]
         ensures { result.now ≡ memory_bytes self.now }
     {
@@ -82,7 +82,7 @@ impl Storage for MemStorage {
         Ok(())
     }
 
-    /// Fails only where memory for a longer image is refused, and then nothing has changed.
+    /// Fails only if there is no memory for a longer image, and then changes nothing.
     fn write(&mut self, buf: &[u8], offset: u64) -> Result<(), StorageFault>
         requires { offset + length buf.now ≤ max_file_length }
         ensures bytes { WritesBytes result offset buf.now (memory_state self.old) (memory_state self.new) }
@@ -107,7 +107,7 @@ impl Storage for MemStorage {
     ghost ends = { λ m o past. get_or_past m.bytes.items o 0 past };
 }
 
-/// There is no device below. Never fails.
+/// Has no device below, and never fails.
 impl Device for MemStorage {
     ghost use Rattle.qcow2_base.specs.Storage.Memory.{memory_bytes};
 
@@ -137,7 +137,7 @@ pub(super) fn copy_bytes(bytes: &[u8], buf: &mut [u8], offset: usize)
     past.fill(0);
 }
 
-// Replaces the bytes from `offset` on, after growing the vector with zeros where it is too short.
+// Replaces the bytes from `offset` on by the buffer's. First appends zeros if the vector is too short.
 fn overwrite(bytes: &mut Vec<u8>, buf: &[u8], offset: usize) -> Result<(), AllocError>
     requires { offset + length buf.now ≤ max_file_length }
     ensures written { OnOk result (Holds (image_of bytes.new.items) offset buf.now) }
@@ -154,7 +154,7 @@ fn overwrite(bytes: &mut Vec<u8>, buf: &[u8], offset: usize) -> Result<(), Alloc
     Ok(())
 }
 
-// Adds zeros at the end until there are `len` bytes.
+// Appends zeros until there are at least `len` bytes.
 fn lengthen(bytes: &mut Vec<u8>, len: usize) -> Result<(), AllocError>
     ensures same { image_of bytes.new.items ≡ image_of bytes.old.items }
     ensures len { OnOk result (length bytes.new.items ≡ max (length bytes.old.items) len) }
@@ -167,7 +167,7 @@ fn lengthen(bytes: &mut Vec<u8>, len: usize) -> Result<(), AllocError>
     Ok(())
 }
 
-// Replaces the bytes from `offset` on.
+// Replaces the bytes from `offset` on by the buffer's.
 fn put(bytes: &mut [u8], buf: &[u8], offset: usize)
     requires { offset + length buf.now ≤ length bytes.old }
     ensures written { Holds (image_of bytes.new) offset buf.now }

@@ -1,4 +1,4 @@
-//! Bytes of an image that somebody else has in memory.
+//! Bytes of an image in the caller's memory.
 
 ghost use Rattle.std.specs.Prelude.{◌≡◌, ℕ, ◌+◌, ◌-◌, ◌^◌, ◌<◌, ◌≤◌, length, slice_index, IsErr, IsOk, refl};
 ghost use Rattle.qcow2_base.specs.Format.{max_file_length};
@@ -10,8 +10,8 @@ ghost use Rattle.std.proofs.lemmas.List.{get_or_past};
 use super::memory::copy_bytes;
 use super::{Storage, StorageFault};
 
-/// Bytes of an image, from an offset on, that somebody else has in memory. Bytes before and after them read
-/// as zero. Each write fails, and changes nothing. Both alignments are 1.
+/// The bytes of an image from an offset on, in the caller's memory. Bytes before and after them read as zero.
+/// Every write fails and changes nothing. Both alignments are 1.
 #[derive(Debug, Drop)]
 pub struct SliceStorage<'a> {
     bytes: &'a [u8],
@@ -23,7 +23,7 @@ pub struct SliceStorage<'a> {
 impl<'a> SliceStorage<'a> {
     ghost use Rattle.qcow2_base.specs.Storage.Slice.{slice_state};
 
-    /// An image of these bytes, from an offset on.
+    /// Returns an image that has these bytes from offset `start` on.
     pub fn new(bytes: &'a [u8], start: u64) -> SliceStorage<'a>
         ensures bytes { (slice_state result).byte_at ≡ image_from start bytes.now }
         ensures failures { (slice_state result).failures ≡ 0 }
@@ -84,8 +84,8 @@ impl<'a> Storage for SliceStorage<'a> {
         Prim.grind (arith, nat_tests, past, none) };
 }
 
-// Fills the buffer with the bytes from `offset` on of an image that has these from `start` on, and with zeros
-// before and after them.
+// Fills the buffer with the bytes from `offset` on of an image that has `bytes` from `start` on and zeros
+// elsewhere.
 fn copy_from(bytes: &[u8], start: u64, buf: &mut [u8], offset: u64)
     requires { offset + length buf.old ≤ max_file_length }
     ensures { Holds (image_from start bytes.now) offset buf.new }

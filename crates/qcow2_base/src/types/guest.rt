@@ -10,7 +10,7 @@ use std::fmt;
 use std::ops::{Add, AddAssign, Sub, SubAssign};
 
 impl GuestOffset {
-    /// The number of bytes from the start of the offset's cluster.
+    /// Returns the offset within the cluster, in bytes.
     #[inline]
     pub fn in_cluster_offset(self, cluster_bits: u32) -> u64
         requires { IsClusterBits cluster_bits }
@@ -19,7 +19,7 @@ impl GuestOffset {
         self.0 % (1 << cluster_bits)
     }
 
-    /// The cluster that the offset lies in.
+    /// Returns the cluster of the offset.
     #[inline]
     pub fn cluster(self, cluster_bits: u32) -> GuestCluster
         requires { IsClusterBits cluster_bits }
@@ -28,8 +28,8 @@ impl GuestOffset {
         GuestCluster(self.0 >> cluster_bits)
     }
 
-    /// The cluster that begins at the offset, if one does. A cluster's own offset gives that
-    /// cluster.
+    /// Returns the cluster that begins at the offset, or `None` within a cluster. The offset of a cluster
+    /// gives that cluster.
     #[inline]
     #[tactic(auto, using(crate::proofs::TypesLemmas::multiple_quotient))]
     pub fn checked_cluster(self, cluster_bits: u32) -> Option<GuestCluster>
@@ -42,7 +42,7 @@ impl GuestOffset {
         (self.in_cluster_offset(cluster_bits) == 0).then_some(self.cluster(cluster_bits))
     }
 
-    /// The place of the offset's cluster in its L2 table.
+    /// Returns the index of the entry of the offset's cluster in its L2 table.
     #[inline]
     pub fn l2_index(self, cluster_bits: u32) -> usize
         requires { IsClusterBits cluster_bits }
@@ -51,7 +51,7 @@ impl GuestOffset {
         self.cluster(cluster_bits).l2_index(cluster_bits)
     }
 
-    /// The place in the L1 table of the L2 table that the offset's cluster is in.
+    /// Returns the index of the offset's L2 table in the L1 table.
     #[inline]
     pub fn l1_index(self, cluster_bits: u32) -> usize
         requires { IsClusterBits cluster_bits }
@@ -60,7 +60,7 @@ impl GuestOffset {
         self.cluster(cluster_bits).l1_index(cluster_bits)
     }
 
-    /// The number of bytes of the offset's cluster from the offset on.
+    /// Returns the number of bytes from the offset to the end of its cluster.
     #[inline]
     pub fn remaining_in_cluster(self, cluster_bits: u32) -> u64
         requires { IsClusterBits cluster_bits }
@@ -69,7 +69,7 @@ impl GuestOffset {
         (1 << cluster_bits) - self.in_cluster_offset(cluster_bits)
     }
 
-    /// The number of bytes from the offset on in the clusters of its L2 table.
+    /// Returns the number of bytes from the offset to the end of the range that its L2 table maps.
     #[inline]
     pub fn remaining_in_l2_table(self, cluster_bits: u32) -> u64
         requires { IsClusterBits cluster_bits }
@@ -83,7 +83,7 @@ impl GuestOffset {
     }
 }
 
-/// The offset that many bytes further on.
+/// Returns the offset that many bytes after this one.
 impl Add<u64> for GuestOffset {
     type Output = GuestOffset;
 
@@ -97,7 +97,7 @@ impl Add<u64> for GuestOffset {
     }
 }
 
-/// The offset that many bytes before.
+/// Returns the offset that many bytes before this one.
 impl Sub<u64> for GuestOffset {
     type Output = GuestOffset;
 
@@ -111,7 +111,7 @@ impl Sub<u64> for GuestOffset {
     }
 }
 
-/// How many bytes lie from the other offset to this one.
+/// Returns the number of bytes from the other offset to this one.
 impl Sub<GuestOffset> for GuestOffset {
     type Output = u64;
 
@@ -125,7 +125,7 @@ impl Sub<GuestOffset> for GuestOffset {
     }
 }
 
-/// `0x` and plain lower-case hexadecimal.
+/// Prints `0x` and lower-case hexadecimal digits, without leading zeros.
 impl fmt::Display for GuestOffset {
     ghost output = { λ offset. Some (codes "0x" ++ digits 16 false offset.0) };
 
@@ -135,7 +135,7 @@ impl fmt::Display for GuestOffset {
 }
 
 impl GuestCluster {
-    /// The offset of the cluster's first byte.
+    /// Returns the offset of the cluster's first byte.
     #[inline]
     pub fn offset(self, cluster_bits: u32) -> GuestOffset
         requires bits { IsClusterBits cluster_bits }
@@ -145,7 +145,7 @@ impl GuestCluster {
         GuestOffset(self.0 << cluster_bits)
     }
 
-    /// The place of the cluster's entry in its L2 table.
+    /// Returns the index of the cluster's entry in its L2 table.
     #[inline]
     pub fn l2_index(self, cluster_bits: u32) -> usize
         requires { IsClusterBits cluster_bits }
@@ -154,7 +154,7 @@ impl GuestCluster {
         (self.0 % (1 << (cluster_bits - 3))) as usize
     }
 
-    /// The place in the L1 table of the L2 table that the cluster is in.
+    /// Returns the index of the cluster's L2 table in the L1 table.
     #[inline]
     pub fn l1_index(self, cluster_bits: u32) -> usize
         requires { IsClusterBits cluster_bits }
@@ -163,7 +163,7 @@ impl GuestCluster {
         (self.0 >> (cluster_bits - 3)) as usize
     }
 
-    /// The cluster at these places. A cluster's own places give that cluster.
+    /// Returns the cluster of these indices. The indices of a cluster give that cluster.
     #[inline]
     #[tactic(auto, using(crate::proofs::TypesLemmas::from_parts))]
     pub fn from_l1_l2_indices(l1_index: usize, l2_index: usize, cluster_bits: u32) -> GuestCluster
@@ -177,7 +177,7 @@ impl GuestCluster {
         GuestCluster(((l1_index as u64) << (cluster_bits - 3)) + l2_index as u64)
     }
 
-    /// The next cluster, if it is in the same L2 table.
+    /// Returns the next cluster, or `None` if that is in another L2 table.
     #[inline]
     #[tactic(auto, using(crate::proofs::TypesLemmas::next_fits))]
     pub fn next_in_l2(self, cluster_bits: u32) -> Option<GuestCluster>
@@ -192,7 +192,7 @@ impl GuestCluster {
         }
     }
 
-    /// The first cluster in the L2 table after the cluster's own.
+    /// Returns the first cluster of the next L2 table.
     #[inline]
     pub fn first_in_next_l2(self, cluster_bits: u32) -> GuestCluster
         requires bits { IsClusterBits cluster_bits }
@@ -203,7 +203,7 @@ impl GuestCluster {
     }
 }
 
-/// The cluster that many clusters further on.
+/// Returns the cluster that many clusters after this one.
 impl Add<ClusterCount> for GuestCluster {
     type Output = GuestCluster;
 
@@ -217,7 +217,7 @@ impl Add<ClusterCount> for GuestCluster {
     }
 }
 
-/// Moves on by that many clusters.
+/// Moves forward by that many clusters.
 impl AddAssign<ClusterCount> for GuestCluster {
     ghost can_add_assign = { λ cluster count. cluster.0 + count.0 < 2 ^ 64 };
 
@@ -229,7 +229,7 @@ impl AddAssign<ClusterCount> for GuestCluster {
     }
 }
 
-/// The cluster that many clusters before.
+/// Returns the cluster that many clusters before this one.
 impl Sub<ClusterCount> for GuestCluster {
     type Output = GuestCluster;
 
@@ -255,7 +255,7 @@ impl SubAssign<ClusterCount> for GuestCluster {
     }
 }
 
-/// How many clusters lie from the other cluster to this one.
+/// Returns the number of clusters from the other cluster to this one.
 impl Sub<GuestCluster> for GuestCluster {
     type Output = ClusterCount;
 

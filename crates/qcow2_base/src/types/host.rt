@@ -10,7 +10,7 @@ use std::fmt;
 use std::ops::{Add, AddAssign, Sub, SubAssign};
 
 impl HostOffset {
-    /// The number of bytes from the start of the offset's cluster.
+    /// Returns the offset within the cluster, in bytes.
     #[inline]
     pub fn in_cluster_offset(self, cluster_bits: u32) -> u64
         requires { IsClusterBits cluster_bits }
@@ -19,7 +19,7 @@ impl HostOffset {
         self.0 % (1 << cluster_bits)
     }
 
-    /// The cluster that the offset lies in.
+    /// Returns the cluster of the offset.
     #[inline]
     pub fn cluster(self, cluster_bits: u32) -> HostCluster
         requires { IsClusterBits cluster_bits }
@@ -28,8 +28,8 @@ impl HostOffset {
         HostCluster(self.0 >> cluster_bits)
     }
 
-    /// The cluster that begins at the offset, if one does. A cluster's own offset gives that
-    /// cluster.
+    /// Returns the cluster that begins at the offset, or `None` within a cluster. The offset of a cluster
+    /// gives that cluster.
     #[inline]
     #[tactic(auto, using(crate::proofs::TypesLemmas::multiple_quotient))]
     pub fn checked_cluster(self, cluster_bits: u32) -> Option<HostCluster>
@@ -43,7 +43,7 @@ impl HostOffset {
     }
 }
 
-/// The offset that many bytes further on.
+/// Returns the offset that many bytes after this one.
 impl Add<u64> for HostOffset {
     type Output = HostOffset;
 
@@ -57,7 +57,7 @@ impl Add<u64> for HostOffset {
     }
 }
 
-/// The offset that many bytes before.
+/// Returns the offset that many bytes before this one.
 impl Sub<u64> for HostOffset {
     type Output = HostOffset;
 
@@ -71,7 +71,7 @@ impl Sub<u64> for HostOffset {
     }
 }
 
-/// How many bytes lie from the other offset to this one.
+/// Returns the number of bytes from the other offset to this one.
 impl Sub<HostOffset> for HostOffset {
     type Output = u64;
 
@@ -85,7 +85,7 @@ impl Sub<HostOffset> for HostOffset {
     }
 }
 
-/// `0x` and plain lower-case hexadecimal.
+/// Prints `0x` and lower-case hexadecimal digits, without leading zeros.
 impl fmt::Display for HostOffset {
     ghost output = { λ offset. Some (codes "0x" ++ digits 16 false offset.0) };
 
@@ -95,7 +95,7 @@ impl fmt::Display for HostOffset {
 }
 
 impl HostCluster {
-    /// The offset of the cluster's first byte.
+    /// Returns the offset of the cluster's first byte.
     #[inline]
     pub fn offset(self, cluster_bits: u32) -> HostOffset
         requires bits { IsClusterBits cluster_bits }
@@ -105,7 +105,7 @@ impl HostCluster {
         HostOffset(self.0 << cluster_bits)
     }
 
-    /// The place of the cluster's counter in its refcount block.
+    /// Returns the index of the cluster's refcount in its refcount block.
     #[inline]
     pub fn rb_index(self, rb_bits: u32) -> usize
         requires { IsRefblockBits rb_bits }
@@ -114,7 +114,7 @@ impl HostCluster {
         (self.0 % (1 << rb_bits)) as usize
     }
 
-    /// The place in the refcount table of the block that the cluster's counter is in.
+    /// Returns the index of the cluster's refcount block in the refcount table.
     #[inline]
     pub fn rt_index(self, rb_bits: u32) -> usize
         requires { IsRefblockBits rb_bits }
@@ -123,7 +123,7 @@ impl HostCluster {
         (self.0 >> rb_bits) as usize
     }
 
-    /// Both places, that in the refcount table first.
+    /// Returns both indices: in the refcount table, then in the block.
     #[inline]
     pub fn rt_rb_indices(self, rb_bits: u32) -> (usize, usize)
         requires { IsRefblockBits rb_bits }
@@ -133,7 +133,7 @@ impl HostCluster {
         (self.rt_index(rb_bits), self.rb_index(rb_bits))
     }
 
-    /// The cluster whose counter is at these places. A cluster's own places give that cluster.
+    /// Returns the cluster whose refcount has these indices. The indices of a cluster give that cluster.
     #[inline]
     #[tactic(auto, using(crate::proofs::TypesLemmas::from_parts))]
     pub fn from_ref_indices(rt_index: usize, rb_index: usize, rb_bits: u32) -> HostCluster
@@ -146,7 +146,7 @@ impl HostCluster {
         HostCluster(((rt_index as u64) << rb_bits) + rb_index as u64)
     }
 
-    /// The host offset of the guest's byte, where its cluster is mapped to this one.
+    /// Returns the host offset of a guest byte whose cluster is mapped to this one.
     #[inline]
     pub fn relative_offset(self, guest_offset: GuestOffset, cluster_bits: u32) -> HostOffset
         requires bits { IsClusterBits cluster_bits }
@@ -157,7 +157,7 @@ impl HostCluster {
     }
 }
 
-/// The cluster that many clusters further on.
+/// Returns the cluster that many clusters after this one.
 impl Add<ClusterCount> for HostCluster {
     type Output = HostCluster;
 
@@ -171,7 +171,7 @@ impl Add<ClusterCount> for HostCluster {
     }
 }
 
-/// Moves on by that many clusters.
+/// Moves forward by that many clusters.
 impl AddAssign<ClusterCount> for HostCluster {
     ghost can_add_assign = { λ cluster count. cluster.0 + count.0 < 2 ^ 64 };
 
@@ -183,7 +183,7 @@ impl AddAssign<ClusterCount> for HostCluster {
     }
 }
 
-/// The cluster that many clusters before.
+/// Returns the cluster that many clusters before this one.
 impl Sub<ClusterCount> for HostCluster {
     type Output = HostCluster;
 
@@ -209,7 +209,7 @@ impl SubAssign<ClusterCount> for HostCluster {
     }
 }
 
-/// How many clusters lie from the other cluster to this one.
+/// Returns the number of clusters from the other cluster to this one.
 impl Sub<HostCluster> for HostCluster {
     type Output = ClusterCount;
 
