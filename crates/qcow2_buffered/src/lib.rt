@@ -1,4 +1,4 @@
-//! A storage over another that reads more than it is asked for, and keeps that for later reads.
+//! A storage over another that reads whole pages and keeps them for later reads.
 #![tactic(auto)]
 
 ghost use Rattle.std.specs.Prelude.{◌≡◌, ◌+◌, ◌^◌, ◌<◌, ◌≤◌, IfOk, IsTrue, OnOk, length};
@@ -12,19 +12,18 @@ use pages::Page;
 use qcow2_base::{Device, MAX_FILE_LENGTH, Storage, StorageFault};
 use std::alloc::{AllocError, Global};
 
-// How many pages are kept. Three reads that go on in turn, each in a part of the image of its own, find
-// theirs.
+// The number of pages. Four are enough for three interleaved sequential reads.
 const PAGES: usize = 4;
 
-// The fewest bytes of a page: what an operating system reads at once in any case.
+// The least size of a page, in bytes: an operating system reads no less at once.
 const FEWEST_BYTES: usize = 4096;
 
-// The most bytes of a page. Longer reads cost as much for each byte.
+// The greatest size of a page, in bytes. Longer reads are no cheaper per byte.
 const MOST_BYTES: usize = 65536;
 
-/// A storage over another. Where it is asked for bytes that lie in one page it reads that page, and keeps it
-/// for later reads. A page begins at a multiple of its length. A read fails where that of its page does.
-/// Nobody else may write to the storage below meanwhile.
+/// A storage that reads another one in pages. A read within one page reads the whole page, and keeps it for
+/// later reads. A page begins at a multiple of its length. A read fails if the read of its page fails. Nobody
+/// else may write to the storage below in the meantime.
 #[derive(Drop)]
 pub struct BufferedStorage<S: Storage> {
     inner: S,
@@ -36,7 +35,7 @@ pub struct BufferedStorage<S: Storage> {
     ghost kept: { ArePages size (S.state inner) pages.items },
 }
 
-// The pages of a storage, which keep nothing yet.
+// Returns the pages of a storage, all empty.
 fn new_pages(alloc: Global, size: usize) -> Result<Vec<Page>, AllocError>
     ensures { IfOk result (λ pages. (state : StorageState) → ArePages size state pages.items) }
 {
@@ -51,8 +50,8 @@ impl<S: Storage> BufferedStorage<S> {
     ghost use Rattle.std.specs.Prelude.{◌≡◌, MatchResult};
     ghost use Rattle.qcow2_buffered.specs.Buffered.{inner_of};
 
-    /// A storage over this one, with pages as long as an image's clusters, but of 4096 bytes at least and of
-    /// 65536 at most. Gives this one back where memory runs out.
+    /// Returns a storage over this one. Its pages are as long as the image's clusters, but at least 4096 and
+    /// at most 65536 bytes. Returns `inner` if memory runs out.
     pub fn new(alloc: Global, inner: S, cluster_size: usize) -> Result<BufferedStorage<S>, S>
         ensures { MatchResult result (λ storage. inner_of storage ≡ inner) (λ back. back ≡ inner) }
     {
@@ -68,7 +67,7 @@ impl<S: Storage> BufferedStorage<S> {
         }
     }
 
-    /// The storage below, without the pages.
+    /// Drops the pages, and returns the storage below.
     pub fn into_inner(self) -> S
         ensures { result ≡ inner_of self }
     {
@@ -82,15 +81,15 @@ impl<S: Storage> BufferedStorage<S> {
     ghost use Rattle.qcow2_base.specs.Storage.{Holds, OnImage, ReadsBytes};
     ghost use Rattle.qcow2_buffered.specs.Buffered.{buffered_state, inner_of};
 
-    /// The storage below.
+    /// Returns the storage below.
     pub fn inner(&self) -> &S
         ensures { result.now ≡ inner_of self.now }
     {
         &self.inner
     }
 
-    // Fills the buffer with bytes of the page that begins at an offset, from one of them on. Returns whether
-    // that page is kept.
+    // If the page that begins at `start` is in memory, fills the buffer with its bytes from index `first` on.
+    // Returns whether it is.
     fn copy_kept(&mut self, start: u64, first: usize, buffer: &mut [u8]) -> bool
         requires { first + length buffer.old ≤ self.old.size }
         ensures bytes { IsTrue result →
@@ -109,7 +108,7 @@ impl<S: Storage> BufferedStorage<S> {
         false
     }
 
-    // The index of the page that was asked for least lately.
+    // Returns the index of the least recently used page.
     fn oldest(&self) -> usize
         requires { 0 < length self.now.pages.items }
         ensures { result < length self.now.pages.items }
@@ -123,8 +122,8 @@ impl<S: Storage> BufferedStorage<S> {
         oldest
     }
 
-    // Reads the page that begins at an offset, and keeps it in the place of another. Fills the buffer with
-    // its bytes from one of them on.
+    // Reads the page that begins at `start` over the least recently used one, and fills the buffer with its
+    // bytes from index `first` on.
     fn read_page(&mut self, start: u64, first: usize, buffer: &mut [u8]) -> Result<(), StorageFault>
         requires some { 0 < length self.old.pages.items }
         requires first { first + length buffer.old ≤ self.old.size }
@@ -168,7 +167,7 @@ impl<S: Storage> Storage for BufferedStorage<S> {
         self.read_page(start, first, buf)
     }
 
-    /// Keeps no page from then on.
+    /// Drops all pages for good: later reads go to the storage below.
     fn write(&mut self, buf: &[u8], offset: u64) -> Result<(), StorageFault>
         requires { offset + length buf.now ≤ max_file_length }
         ensures { WritesBytes result offset buf.now

@@ -1,4 +1,4 @@
-//! Pages: bytes of a storage that lie one after another, kept for later reads.
+//! Pages: consecutive bytes of a storage, kept for later reads.
 
 ghost use Rattle.std.specs.Prelude.{◌≡◌, ℕ, ◌+◌, ◌<◌, ◌≤◌, None, Some, IfOk, IsTrue, OnOk, length, slice_index};
 ghost use Rattle.qcow2_base.specs.Format.{max_file_length};
@@ -8,7 +8,7 @@ ghost use Rattle.qcow2_buffered.specs.Pages.{IsPage};
 use qcow2_base::{Storage, StorageFault};
 use std::alloc::{AllocError, Global};
 
-/// Bytes of a storage from an offset on, if any are kept, and when they were last asked for.
+/// The bytes of a storage from an offset on, or none, and the turn of their last use.
 #[derive(Drop)]
 pub(crate) struct Page {
     pub(crate) start: Option<u64>,
@@ -17,7 +17,7 @@ pub(crate) struct Page {
 }
 
 impl Page {
-    /// A page of that many bytes that keeps none yet.
+    /// Returns an empty page of that many bytes.
     pub(crate) fn new(alloc: Global, size: usize) -> Result<Page, AllocError>
         ensures start { IfOk result (λ page. page.start ≡ None) }
         ensures len { IfOk result (λ page. length page.bytes.items ≡ size) }
@@ -29,15 +29,15 @@ impl Page {
         })
     }
 
-    /// Whether the page keeps the bytes from an offset on.
+    /// Whether the page has the bytes from this offset on.
     pub(crate) fn begins_at(&self, start: u64) -> bool
         ensures { IsTrue result → self.now.start ≡ Some start }
     {
         self.start == Some(start)
     }
 
-    /// Reads the bytes of the storage from an offset on, as many as the page has, and fills the buffer with
-    /// those from one of them on. After a failure the page keeps none.
+    /// Reads the storage's bytes from `start` on, as many as the page has, and fills the buffer with those
+    /// from index `first` on. A failure empties the page.
     pub(crate) fn read<S: Storage>(
         &mut self,
         storage: &mut S,
@@ -58,7 +58,7 @@ impl Page {
         Ok(())
     }
 
-    // Reads the bytes of the storage from an offset on. After a failure the page keeps none.
+    // Reads the storage's bytes from `start` on. A failure empties the page.
     fn fill<S: Storage>(&mut self, storage: &mut S, start: u64) -> Result<(), StorageFault>
         requires { start + length self.old.bytes.items ≤ max_file_length }
         ensures page { IsPage (length self.old.bytes.items) (S.state storage.old) self.new }
@@ -71,7 +71,7 @@ impl Page {
         Ok(())
     }
 
-    /// Fills the buffer with the page's bytes from an index on, and notes when.
+    /// Fills the buffer with the page's bytes from index `first` on, and notes the turn.
     pub(crate) fn copy_to(&mut self, first: usize, buffer: &mut [u8], turn: u64)
         requires { first + length buffer.old ≤ length self.old.bytes.items }
         ensures bytes { (i : ℕ) → i < length buffer.new →

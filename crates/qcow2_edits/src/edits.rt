@@ -1,4 +1,4 @@
-//! Lists of edits of an L2 table: all of them are made, or none.
+//! Lists of edits of an L2 table: the call makes all of them, or none.
 
 ghost use Rattle.std.specs.Prelude.{◌≡◌, ℕ, ◌+◌, ◌-◌, ◌<◌, ◌≤◌, ◌/◌, ◌^◌, [], ◌++◌, if◌then◌else◌, Err, IfErr, IfOk, IfSome, MatchResult, None, Some, length, map, not, option_map, option_to_list, slice_index, true};
 ghost use Rattle.std.specs.Vec.{vec_capacity};
@@ -17,51 +17,50 @@ use qcow2_base::{ClusterCount, Fault, HostCluster};
 use qcow2_metadata::{ClustersToFreeEntry, L2Table, L2TableWriteGuard, MAX_OFFSET, Table};
 use std::alloc::{AllocError, Global};
 
-/// A change of what one guest cluster reads as. The index is that of its entry in the L2 table.
+/// A change of the mapping of one guest cluster. The index is that of its entry in the L2 table.
 #[derive(Clone, Copy, Debug, PartialEq, Eq)]
 pub enum Edit {
-    /// Data in a host cluster that has no other reference, as `L2TableWriteGuard::map_cluster` makes it.
+    /// Maps to data in a host cluster without another reference, as `L2TableWriteGuard::map_cluster` does.
     Map {
         index: usize,
         host_cluster: HostCluster,
     },
-    /// Zeros, as `L2TableWriteGuard::zero_cluster` makes them: with `keep_allocation` an entry keeps its
-    /// host cluster, but compressed data is handed back all the same.
+    /// Maps to zeros, as `L2TableWriteGuard::zero_cluster` does: with `keep_allocation` the entry keeps its
+    /// host cluster, but compressed data is freed all the same.
     Zero {
         index: usize,
         keep_allocation: bool,
     },
-    /// No data, as `L2TableWriteGuard::discard_cluster` makes it.
+    /// Removes the mapping, as `L2TableWriteGuard::discard_cluster` does.
     Discard {
         index: usize,
     },
 }
 
-/// What edits of a table did to references. Each list has the order of the edits, but a cluster may gain
-/// and lose references in turn. So what counts for its refcount is what it gained less what it lost.
+/// The changes of references by edits of a table. Each list is in the order of the edits, but a cluster may
+/// gain and lose references in turn, so its refcount changes by its gains minus its losses.
 ///
-/// Where guest data lies in an external data file, clusters of data are clusters of that file, which has no
-/// refcounts; those of compressed data are the image's.
+/// With an external data file, data clusters are clusters of that file, which has no refcounts; clusters of
+/// compressed data are the image's.
 #[derive(Debug, Drop)]
 pub struct Outcome {
-    /// The host clusters that gained a reference, each as often as it gained one.
+    /// The host clusters that gained a reference, once for each reference.
     pub gained: Vec<HostCluster>,
     /// The host clusters that lost a reference.
     pub freed: Vec<ClustersToFreeEntry>,
 }
 
-/// What one edit did to references.
+/// The changes of references by one edit.
 #[derive(Clone, Copy, Debug, PartialEq, Eq)]
 pub struct Change {
     /// The host cluster that gained a reference.
     pub gained: Option<HostCluster>,
-    /// The host clusters that lost one each.
+    /// The host clusters that each lost a reference.
     pub freed: Option<ClustersToFreeEntry>,
 }
 
 impl Edit {
-    // Whether the edit can be made of the table, whose entries can refer to host clusters up to the
-    // greatest.
+    // Whether the edit fits the table, whose entries can refer to host clusters up to `greatest`.
     fn fits(&self, table: &L2Table, greatest: HostCluster) -> bool
         requires { greatest.0 ≡ max_offset / 2 ^ table.now.geometry.cluster_bits }
         ensures { result ≡ edit_fits table.now self.now }
@@ -75,8 +74,8 @@ impl Edit {
         }
     }
 
-    /// Makes the edit, which fits the table, and returns what it did to references. Takes no memory. The
-    /// table then counts as modified.
+    /// Makes the edit, which must fit the table, and returns its changes of references. Allocates nothing.
+    /// The table then counts as modified.
     pub fn make(&self, table: &mut L2Table) -> Change
         requires { edit_fits table.old self.now ≡ true }
         ensures { Makes (table_edit self.now) result table.old table.new }
@@ -99,9 +98,9 @@ impl Edit {
     }
 }
 
-// Maps the guest cluster at an index to a host cluster, and returns all that its entry referred to before.
-// That is taken away first: mapping returns nothing both where the entry had no cluster and where it keeps
-// this one.
+// Maps the guest cluster at an index to a host cluster, and returns all clusters that its entry referred to
+// before. Discards the mapping first: `map_cluster` returns `None` both for an entry without a cluster and
+// for one that keeps this cluster.
 #[tactic(auto, using(crate::proofs::EditsLemmas::edited_twice))]
 fn map_anew(
     guard: &mut L2TableWriteGuard<'_>,
@@ -122,8 +121,7 @@ fn map_anew(
     before
 }
 
-// Whether an entry of the table, which can refer to host clusters up to the greatest, can refer to this
-// one.
+// Whether an entry of the table, which can refer to host clusters up to `greatest`, can refer to this one.
 #[tactic(auto, using(crate::proofs::EditsLemmas::mappable_by_greatest))]
 fn is_mappable(table: &L2Table, greatest: HostCluster, host_cluster: HostCluster) -> bool
     requires { greatest.0 ≡ max_offset / 2 ^ table.now.geometry.cluster_bits }
@@ -133,7 +131,7 @@ fn is_mappable(table: &L2Table, greatest: HostCluster, host_cluster: HostCluster
 }
 
 impl Change {
-    // What mapping to a host cluster did, where the entry referred to these clusters before.
+    // Returns the change by a mapping to a host cluster, if the entry referred to `before`.
     fn of_mapping(host_cluster: HostCluster, before: Option<ClustersToFreeEntry>) -> Change
         ensures gained { option_map (λ (cluster : Cluster). cluster.0) result.gained
             ≡ if is_just host_cluster.0 before then None else Some host_cluster.0 }
@@ -152,7 +150,7 @@ impl Change {
         }
     }
 
-    // What an edit did that gives no cluster a reference.
+    // Returns the change by an edit without a gained cluster.
     fn of_dropping(freed: Option<ClustersToFreeEntry>) -> Change
         ensures { result ≡ record { gained = None; freed = freed } }
     {
@@ -163,7 +161,7 @@ impl Change {
     }
 }
 
-// Appends a value to a list, which has room for it.
+// Appends a value, if there is one, to a list with room for it.
 fn push_some<T: Drop>(list: &mut Vec<T>, value: Option<T>)
     requires { length list.old.items < vec_capacity list.old }
     ensures items { list.new.items ≡ list.old.items ++ option_to_list value }
@@ -175,7 +173,7 @@ fn push_some<T: Drop>(list: &mut Vec<T>, value: Option<T>)
 }
 
 impl Outcome {
-    // The outcome of no edits, with room for that of `edits` edits.
+    // Returns the outcome of no edits, with room for that of `edits` edits.
     fn with_capacity(alloc: Global, edits: usize) -> Result<Outcome, AllocError>
         ensures gained { IfOk result (λ outcome. outcome.gained.items ≡ []) }
         ensures freed { IfOk result (λ outcome. outcome.freed.items ≡ []) }
@@ -187,7 +185,7 @@ impl Outcome {
         })
     }
 
-    // Appends what an edit did to what those before it did. There is room for it.
+    // Appends the change by one edit. The lists must have room for it.
     fn push(&mut self, change: Change)
         requires { HasRoom 1 self.old }
         ensures gained { self.new.gained.items ≡ self.old.gained.items ++ option_to_list change.gained }
@@ -199,13 +197,13 @@ impl Outcome {
     }
 }
 
-// The position of the first edit that can't be made of the table.
+// Returns the position of the first edit that doesn't fit the table.
 #[tactic(auto, using(crate::proofs::EditsLemmas::unfit_position))]
 fn first_unfit(table: &L2Table, edits: &[Edit]) -> Option<usize>
     ensures position { result ≡ first_unfit_edit table.now edits.now }
     ensures bits { IsClusterBits table.now.geometry.cluster_bits }
 {
-    // A cluster's offset may not fit 64 bits, so the greatest cluster is computed instead.
+    // A cluster's offset may not fit 64 bits, so compare with the greatest cluster instead.
     let greatest = MAX_OFFSET.cluster(table.cluster_bits());
     edits.iter().position(
         |edit: &Edit| -> bool
@@ -215,10 +213,9 @@ fn first_unfit(table: &L2Table, edits: &[Edit]) -> Option<usize>
     )
 }
 
-/// Whether all edits can be made of the table, and if not, the position of the first that can't. Its
-/// index is past the table's end, or it maps to a host cluster that `L2TableWriteGuard::map_cluster`
-/// doesn't take. Whether another entry refers to that cluster, or the table itself lies there, is not
-/// looked at.
+/// Checks that all edits fit the table, or returns the position of the first that doesn't: its index is past
+/// the table's end, or it maps to a host cluster that `L2TableWriteGuard::map_cluster` doesn't take. Doesn't
+/// check whether another entry refers to that cluster, or the table itself lies there.
 pub fn edits_fit(table: &L2Table, edits: &[Edit]) -> Result<(), usize>
     ensures { MatchResult result
         (λ fit. first_unfit_edit table.now edits.now ≡ None)
@@ -230,7 +227,7 @@ pub fn edits_fit(table: &L2Table, edits: &[Edit]) -> Result<(), usize>
     }
 }
 
-// Makes the edits, which all fit the table, one after the other. The outcome has room for what they do.
+// Makes the edits, which must all fit the table, in order. The outcome must have room for their changes.
 #[tactic(auto, using(crate::proofs::EditsLemmas::part_way_fits))]
 fn make_edits(table: &mut L2Table, edits: &[Edit], outcome: &mut Outcome)
     requires fit { first_unfit_edit table.old edits.now ≡ None }
@@ -246,13 +243,12 @@ fn make_edits(table: &mut L2Table, edits: &[Edit], outcome: &mut Outcome)
     }
 }
 
-/// Makes all edits of an L2 table, one after the other, and returns what they did to references. At each
-/// host cluster, the references that the table has then and those handed back are together as many as
-/// those that it had before and those gained. The table then counts as modified, unless there was no
-/// edit.
+/// Makes all edits of an L2 table in order, and returns their changes of references. For each host cluster,
+/// the table's references afterwards plus those freed are its references before plus those gained. The table
+/// then counts as modified, unless there are no edits.
 ///
-/// Refuses edits that don't all fit, by the position of the first that `edits_fit` names. Takes memory for
-/// the outcome before the first edit. After any refusal the table is as before. Its cluster stays.
+/// Refuses edits that don't all fit (fault 32), with the position of the first, as `edits_fit` returns it.
+/// Allocates the outcome before the first edit. A refusal leaves the table unchanged. Its cluster stays.
 #[tactic(auto, using(crate::proofs::EditsLemmas::run_balances))]
 pub fn edit_table(alloc: Global, table: &mut L2Table, edits: &[Edit]) -> Result<Outcome, Fault>
     ensures unfit { IfSome (first_unfit_edit table.old edits.now) (λ at. result ≡ Err (BadEdit at)) }

@@ -13,17 +13,18 @@ ghost use Rattle.qcow2_metadata.specs.Refblock.{BlockState, greatest_counter};
 ghost use Rattle.qcow2_metadata.specs.Table.{TableState};
 ghost use Rattle.qcow2_metadata.specs.Table.L2Guards.{references, run_of, times_gained};
 
-/// Where settling an outcome isn't refused, each counter of the block, with what its cluster lost, is the one
-/// before, with what it gained. The block counts as modified where one did either. All else stays.
+/// If settling an outcome isn't refused, each refcount of the block plus its cluster's losses is the refcount
+/// before plus its gains. The block counts as modified if a cluster gained or lost a reference. All else
+/// stays.
 pub fn a_settled_block_counts_the_outcome()
     ensures { (first : ℕ) (outcome : Outcome) (old new : BlockState) →
         block_or_refusal old first outcome.freed.items (cluster_numbers outcome.gained.items) ≡ Ok new →
         Settles first outcome old new }
 {}
 
-/// Where a table lost and gained references by an outcome, and a block counted the same outcome, at each of
-/// the block's clusters the counter after and the references before are as many as the counter before and
-/// the references after.
+/// If a table gained and lost references by an outcome, and a block counted that outcome, then for each of
+/// the block's clusters the refcount after plus the references before is the refcount before plus the
+/// references after.
 pub fn counters_follow_references()
     ensures { (first : ℕ) (outcome : Outcome) (old_table new_table : TableState)
         (old_block new_block : BlockState) (index : ℕ) →
@@ -35,8 +36,8 @@ pub fn counters_follow_references()
         + references new_table.geometry new_table.numbers (first + index) }
 {}
 
-/// Counters that were at least the table's references are so after settled edits too. Where they were, only a
-/// gain is refused, by which a counter would pass the greatest number.
+/// Refcounts that were at least the table's references remain so after settled edits. In that case only a
+/// gain that would raise a refcount past the greatest number is refused.
 pub fn covered_references_stay_covered()
     ensures { (header : HeaderRecord) (table : TableState) (block : BlockState) (rt_index : ℕ)
         (edits : List Edit) → IsClusterBits table.geometry.cluster_bits →

@@ -1,4 +1,4 @@
-//! Lists of edits of an L2 table and of steps of a refcount block, and counters that follow edits.
+//! Lists of edits of an L2 table and of steps of a refcount block, and refcounts that follow edits.
 #![tactic(auto)]
 
 mod edits;

@@ -1,4 +1,4 @@
-//! Counters of a refcount block that follow what edits of a table did to references.
+//! Refcounts of a block that follow the edits of a table.
 
 ghost use Rattle.std.specs.Prelude.{◌≡◌, ◌≢◌, ℕ, ◌+◌, ◌<◌, ◌≤◌, if◌then◌else◌, Err, IfErr, IfOk, IfSome, None, OnOk, length, nat_lt, slice_index, take};
 ghost use Rattle.qcow2_base.specs.declared.fault.Fault.TheVariants.{CounterRange, ExternalData};
@@ -17,7 +17,7 @@ use qcow2_base::{ClusterCount, Fault, HostCluster};
 use qcow2_metadata::{AtomicL2Entry, ClustersToFreeEntry, Header, L2Table, RefBlock, Table};
 use std::alloc::{AllocError, Global};
 
-// Whether counters go up or down.
+// Whether refcounts are raised or lowered.
 #[derive(Clone, Copy)]
 enum Direction {
     Up,
@@ -25,7 +25,7 @@ enum Direction {
 }
 
 impl Direction {
-    // The other direction, which undoes this one.
+    // Returns the other direction, which undoes this one.
     fn back(self) -> Direction
         ensures { change_in result ≢ change_in self }
     {
@@ -35,7 +35,7 @@ impl Direction {
         }
     }
 
-    // Changes the counter at an index by one, if it lets it.
+    // Raises or lowers the refcount at an index by 1, if it stays in range.
     fn step(self, block: &mut RefBlock, index: usize) -> Result<u64, Fault>
         requires { index < length block.old.numbers }
         ensures { Steps (change_in self) index result block.old block.new }
@@ -48,8 +48,8 @@ impl Direction {
     }
 }
 
-// Changes the counters from one index to before another. Stops at the first that doesn't let it, and
-// returns its index.
+// Changes the refcounts from index `start` to before `end`. Stops at the first that would leave its range,
+// and returns its index.
 fn step_range(
     block: &mut RefBlock,
     start: usize,
@@ -74,8 +74,8 @@ fn step_range(
     Ok(())
 }
 
-// How many counters come before that of a cluster, in a block of `entries` counters whose first one is for
-// the first cluster.
+// Returns the number of refcounts before that of a cluster, in a block of `entries` refcounts whose first one
+// is of cluster `first`.
 fn counters_before(first: u128, entries: usize, cluster: u128) -> usize
     ensures within { result ≤ entries }
     ensures each { (index : ℕ) → index < entries → nat_lt index result ≡ nat_lt (first + index) cluster }
@@ -90,7 +90,7 @@ fn counters_before(first: u128, entries: usize, cluster: u128) -> usize
     entries
 }
 
-// Changes the counters of clusters by one each, or none of them where one doesn't let it.
+// Changes the refcount of each of these clusters by 1, or none of them if one would leave its range.
 fn count_clusters(
     block: &mut RefBlock,
     first: u128,
@@ -114,11 +114,11 @@ fn count_clusters(
     Err(Fault::CounterRange)
 }
 
-// An item of an outcome: clusters that gained a reference each, or lost one.
+// An item of an outcome: clusters that each gained or lost a reference.
 trait Counted {
     ghost clusters: { Self → Clusters };
 
-    // Its clusters, one after another.
+    // Returns the consecutive clusters of the item.
     fn clusters(&self) -> ClustersToFreeEntry
         ensures { result ≡ clusters self.now };
 }
@@ -143,8 +143,8 @@ impl Counted for ClustersToFreeEntry {
     }
 }
 
-// Changes the counters of the clusters of each item, one item after the other. Where one doesn't let it,
-// it stops before an item, and returns how many came before that.
+// Changes the refcounts of the clusters of each item, in order. Stops before an item with a refcount that
+// would leave its range, and returns the number of items before it.
 fn count_list<C: Counted>(
     block: &mut RefBlock,
     first: u128,
@@ -159,7 +159,7 @@ fn count_list<C: Counted>(
     ensures out_of_range { IfErr result (λ at.
         SomeLeavesRange (change_in direction) (times_counted C.clusters list.now first) block.old) }
 {
-    // Asked for since it says that each counter fits its width.
+    // Called for its contract alone: each refcount fits its width.
     let _ = block.entries();
     for at in 0..list.len() {
         if let Err(_) = count_clusters(block, first, list[at].clusters(), direction) {
@@ -169,7 +169,7 @@ fn count_list<C: Counted>(
     Ok(())
 }
 
-// The same, but where one counter doesn't let it, none is changed.
+// Does the same, but changes no refcount if one would leave its range.
 fn count_all<C: Counted>(
     block: &mut RefBlock,
     first: u128,
@@ -190,8 +190,8 @@ fn count_all<C: Counted>(
     Err(Fault::CounterRange)
 }
 
-// Counts all that clusters gained by the outcome, and then all that they lost, or nothing. Only the
-// flag may be another after a refusal.
+// Counts all references that clusters gained by the outcome, then all that they lost, or none of them. A
+// refusal may change the modified flag alone.
 fn count_outcome(block: &mut RefBlock, first: u128, outcome: &Outcome) -> Result<(), Fault>
     ensures exact { result_map (λ done. block.new) result ≡ block_or_refusal block.old first
         outcome.now.freed.items (cluster_numbers outcome.now.gained.items) }
@@ -208,17 +208,17 @@ fn count_outcome(block: &mut RefBlock, first: u128, outcome: &Outcome) -> Result
     Err(fault)
 }
 
-/// Counts in a refcount block what edits did to references, by their outcome. The counter of each
-/// cluster that the block counts goes up by one for each reference that the cluster gained, and down by
-/// one for each that it lost. These clusters are as many as the block has entries, from `rt_index`, its
-/// index in the refcount table, times that number on; all others are passed over. The block then counts
-/// as modified if one of them gained or lost a reference, else its flag stays. Where it lies in the image
-/// stays. The header has the block's cluster bits and refcount order. Takes no memory.
+/// Applies the outcome of edits to a refcount block. Raises the refcount of each cluster in the block by 1
+/// for each reference that the cluster gained, and lowers it by 1 for each that it lost. The block counts as
+/// many clusters as it has entries, from `rt_index`, its index in the refcount table, times that number on;
+/// the call ignores all others. The block then counts as modified if one of its clusters gained or lost a
+/// reference, else its flag stays. Its place in the image stays. The header must have the block's cluster
+/// bits and refcount order. Allocates nothing.
 ///
-/// Refuses an image with an external data file, where clusters of guest data have no counters. Then
-/// refuses an outcome by which a counter would pass the greatest number that it can hold, when all
-/// gains are counted and no loss. Also one by which a cluster loses more than its counter and its gains.
-/// After any refusal the block is as before.
+/// Refuses an image with an external data file (fault 36), whose data clusters have no refcounts. Then
+/// refuses with fault 30 if a refcount would pass the greatest number of its width once all gains and no
+/// losses are counted, or if a cluster loses more than its refcount and its gains. A refusal leaves the block
+/// unchanged.
 pub fn settle(
     block: &mut RefBlock,
     header: &Header,
@@ -237,7 +237,7 @@ pub fn settle(
         return Err(Fault::ExternalData);
     }
     let was_modified = block.is_modified();
-    // The number of a cluster and an index fit 128 bits, also where their sum fits 64 no more.
+    // The product, and its sum with an index, fit 128 bits even if they don't fit 64.
     let first = rt_index as u128 * block.entries() as u128;
     let Err(fault) = count_outcome(block, first, outcome) else {
         return Ok(());
@@ -250,7 +250,7 @@ pub fn settle(
     Err(fault)
 }
 
-// The table's `count` entries in their order.
+// Returns the table's `count` entries in order.
 fn entries_of(
     alloc: Global,
     table: &L2Table,
@@ -268,7 +268,7 @@ fn entries_of(
         .collect(alloc)
 }
 
-// Another table that says the same.
+// Returns an equal table.
 fn copy_of(table: &L2Table, header: &Header) -> Result<L2Table, AllocError>
     requires { geometry_of header.now ≡ table.now.geometry }
     ensures { IfOk result (λ copy. copy ≡ table.now) }
@@ -284,17 +284,17 @@ fn copy_of(table: &L2Table, header: &Header) -> Result<L2Table, AllocError>
     Ok(copy)
 }
 
-/// Makes all edits of an L2 table, as `edit_table` does, and counts what they did to the clusters of a
-/// refcount block, as `settle` does. At each of these, the counter and the table's references before are
-/// together as many as the counter before and the table's references after. So a counter that was at
-/// least its references stays so. What they did to other clusters is for the caller to count: the
-/// outcome is settled with each other block by `settle`, and where that refuses, the edits stay made.
-/// The header has the table's geometry, and the block's cluster bits and refcount order.
+/// Makes all edits of an L2 table, as `edit_table` does, and applies the outcome to a refcount block, as
+/// `settle` does. For each cluster of the block, the refcount afterwards plus the table's references before
+/// is the refcount before plus the table's references afterwards. So a refcount that was at least the number
+/// of references remains so. The caller counts the outcome for other clusters: settle it with each other
+/// block by `settle`; if that refuses, the edits stay made. The header must have the table's geometry, and
+/// the block's cluster bits and refcount order.
 ///
-/// Refuses an image with an external data file, and then edits that don't all fit, by the position of
-/// the first that `edits_fit` names. Takes all memory before the first change. Then refuses what
-/// `settle` refuses: where each counter was at least its references, only gains by which a counter
-/// passes the greatest number. After any refusal table and block are as before.
+/// Refuses an image with an external data file (fault 36), and then edits that don't all fit (fault 32), with
+/// the position of the first, as `edits_fit` returns it. Allocates all memory before the first change. Then
+/// refuses what `settle` refuses: if each refcount was at least the number of references, only gains that
+/// raise a refcount past the greatest number. A refusal leaves table and block unchanged.
 pub fn edit_settled(
     alloc: Global,
     table: &mut L2Table,

@@ -1,4 +1,4 @@
-//! Lists of counter steps of a refcount block: a step that can't be made is refused by itself.
+//! Lists of refcount steps of a block: each step is done or refused by itself.
 
 ghost use Rattle.std.specs.Prelude.{◌≡◌, ◌<◌, Err, IfErr, IfOk, IfSome, length, nat_lt, not};
 ghost use Rattle.qcow2_base.specs.declared.fault.Fault.TheVariants.{BadStep};
@@ -9,26 +9,26 @@ use qcow2_base::Fault;
 use qcow2_metadata::RefBlock;
 use std::alloc::Global;
 
-/// A change of one counter of a refcount block. The index is that of the counter.
+/// A change of one refcount of a block, with the refcount's index.
 #[derive(Clone, Copy, Debug, PartialEq, Eq)]
 pub enum Step {
-    /// One reference more.
+    /// Adds 1.
     Inc { index: usize },
-    /// One reference less.
+    /// Subtracts 1.
     Dec { index: usize },
 }
 
-/// What came of a step.
+/// The result of a step.
 #[derive(Clone, Copy, Debug, PartialEq, Eq)]
 pub enum StepReply {
-    /// The step was made. This is how many references there were before it.
+    /// The step was done. The value is the refcount before it.
     Done(u64),
-    /// The counter was at the greatest number that it holds, or at 0, and stays so.
+    /// The refcount stays: it was at the greatest number of its width, or at 0.
     Refused,
 }
 
 impl Step {
-    // The index of its counter.
+    // Returns the index of the step's refcount.
     #[inline]
     fn index(&self) -> usize
         ensures { result ≡ index_of self.now }
@@ -38,7 +38,7 @@ impl Step {
         }
     }
 
-    // Makes the step, if the counter lets it.
+    // Makes the step, if the refcount stays in range.
     fn make(&self, block: &mut RefBlock) -> StepReply
         requires { index_of self.now < length block.old.numbers }
         ensures { MakesStep self.now result block.old block.new }
@@ -55,7 +55,7 @@ impl Step {
     }
 }
 
-// The position of the first step whose index is past the block's end.
+// Returns the position of the first step whose index is past the block's end.
 fn first_unfit(block: &RefBlock, steps: &[Step]) -> Option<usize>
     ensures { result ≡ first_unfit_step (length block.now.numbers) steps.now }
 {
@@ -67,12 +67,11 @@ fn first_unfit(block: &RefBlock, steps: &[Step]) -> Option<usize>
     )
 }
 
-/// Makes all steps of a block, one after the other, and returns what came of each. The block then counts as
-/// modified if one of them was done.
+/// Makes all steps of a block in order, and returns a reply for each. The block then counts as modified if at
+/// least one was done.
 ///
-/// Refuses steps whose indices aren't all in bounds, by the position of the first that isn't. Takes
-/// memory for the replies before the first step. After any refusal the block is as before. Its cluster
-/// stays.
+/// Refuses steps whose indices aren't all in bounds (fault 33), with the position of the first that isn't.
+/// Allocates the replies before the first step. A refusal leaves the block unchanged. Its cluster stays.
 pub fn step_block(
     alloc: Global,
     block: &mut RefBlock,

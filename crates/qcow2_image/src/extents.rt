@@ -1,4 +1,4 @@
-//! What a whole disk reads as, in extents: parts of it that read as one, as long as they go.
+//! The content of a whole disk, in extents as long as possible.
 
 ghost use Rattle.std.specs.Prelude.{◌≡◌, ◌⊎◌, ◌+◌, ◌-◌, ◌*◌, ◌/◌, ◌^◌, ◌<◌, ◌≤◌, ◌↔◌, None, Some, Ok, Err, IfErr, IfOk, IfSome, IsOkAnd, IsSome, IsSomeAnd, IsTrue, MatchResult, min};
 ghost use Rattle.qcow2_base.specs.Storage.{OnImage, OnlyReads};
@@ -19,32 +19,33 @@ use qcow2_metadata::{Header, L1Table, L2Mapping, L2Table, Table};
 use std::alloc::Global;
 use std::marker::Model;
 
-/// What bytes of the guest's disk read as.
+/// The content of consecutive bytes of the guest's disk.
 #[derive(Clone, Copy, Debug, PartialEq, Eq)]
 pub enum Content {
-    /// Data of the image or its external data file, the first byte at this offset.
+    /// Data of the image or its external data file, in consecutive host clusters. The first byte is at this
+    /// offset.
     Data(HostOffset),
-    /// Zeros that no cluster is kept for.
+    /// Zeros without host clusters.
     Zeros,
-    /// Zeros, in clusters that are kept for them, the first byte at this offset.
+    /// Zeros with consecutive allocated host clusters. The first byte is at this offset.
     AllocatedZeros(HostOffset),
-    /// Data that is compressed, each cluster by itself.
+    /// Compressed data, each cluster by itself.
     Compressed,
-    /// What the backing file has there, or zeros where there is none.
+    /// The backing file's data there, or zeros if there is no backing file.
     Absent,
 }
 
-/// A part of the guest's disk that reads as one.
+/// A range of the guest's disk with one content.
 #[derive(Clone, Copy, Debug, PartialEq, Eq)]
 pub struct Extent {
     pub start: GuestOffset,
-    /// In bytes. Never 0.
+    /// The length in bytes, never 0.
     pub length: u64,
     pub content: Content,
 }
 
 impl Content {
-    // What the byte at a distance from its cluster's begin reads as, by what the cluster does.
+    // Returns the content of the byte at a distance from the begin of its cluster, by the cluster's mapping.
     #[inline]
     fn within(mapping: L2Mapping, distance: u64, cluster_bits: u32) -> Content
         requires placed { IsPlaced cluster_bits mapping }
@@ -74,7 +75,7 @@ impl Content {
         }
     }
 
-    // Whether bytes that read as this go on `distance` bytes further on as bytes that read as the next.
+    // Whether `next` continues this content, if it begins `distance` bytes after it begins.
     #[inline]
     fn goes_on_as(self, distance: u64, next: Content) -> bool
         ensures { IsTrue result ↔ (next ≡ moved_on distance self) }
@@ -92,7 +93,7 @@ impl Content {
     }
 }
 
-// The next offset after this one that has an L2 table, or the disk's size.
+// Returns the next offset after this one that has an L2 table, or the disk's size.
 fn gap_end(l1_table: &L1Table, from: u64, size: u64) -> u64
     requires within { from < size }
     requires none { let cb = l1_table.now.geometry.cluster_bits in
@@ -113,8 +114,8 @@ fn gap_end(l1_table: &L1Table, from: u64, size: u64) -> u64
     }
 }
 
-// What the byte at an offset reads as by the table that has its entry, and up to where it goes on in that
-// table, or the disk's size. Always `Ok`.
+// Returns the content of the byte at an offset by the table that has its entry, and the end of that content
+// in this table, at most the disk's size. Always returns `Ok`.
 #[inline(always)]
 #[tactic(auto, using(crate::proofs::ExtentsLemmas::distance_below))]
 fn piece_of_table(table: &L2Table, from: u64, size: u64) -> Result<(Content, u64), Fault>
@@ -130,15 +131,16 @@ fn piece_of_table(table: &L2Table, from: u64, size: u64) -> Result<(Content, u64
     Ok((content, from + run.min(size - from)))
 }
 
-/// A reader of what a whole disk reads as, extent by extent. It holds the L1 table and at most one L2 table.
-/// Clauses see it as what it has of the image and how far it has come.
+/// A reader of the content of a whole disk, extent by extent. It has the L1 table and at most one L2 table in
+/// memory. In contracts it is these tables, the header and its position.
 #[derive(Drop)]
 pub struct Extents<'a> {
     header: &'a Header,
     l1_table: L1Table,
     position: u64,
     table: Option<L2Table>,
-    // The piece at the position, where that was read to know that the extent before ends there.
+    // The content and end from the position on, if `next` has read them to see that the extent before ends
+    // there.
     ahead: Option<(Content, u64)>,
 }
 
@@ -163,8 +165,8 @@ impl<'a> Model for Extents<'a> {
         × IfSome e.ahead (λ piece. (e.position < piece.1) × (piece.1 ≤ e.header.now.v2.size)) };
 }
 
-// Keeps the L2 table that begins with a cluster: the one that is kept, where that is it, or else the one that
-// `L2Table::load` loads. After a fault none is kept.
+// Makes `kept` the L2 table that begins with a cluster: leaves it if it is that one, or else loads it by
+// `L2Table::load`. A fault leaves `None`.
 fn keep_table<S: Storage>(
     kept: &mut Option<L2Table>,
     image: &mut S,
@@ -188,7 +190,7 @@ fn keep_table<S: Storage>(
         None => false,
     };
     if !is_kept {
-        // Its memory is given back before the next table takes as much.
+        // Frees its memory before the next table takes as much.
         *kept = None;
         *kept = Some(load_l2_table(alloc, image, header, cluster)?);
     }
@@ -198,8 +200,8 @@ fn keep_table<S: Storage>(
 impl<'a> Extents<'a> {
     ghost use Rattle.qcow2_image.specs.Extents.{IsReaderOf, MovesReader, PassesExtent, StaysReader, contents_for, extent_of};
 
-    /// A reader of the extents of an image with this header, from the disk's begin on. Reads the L1 table,
-    /// and returns its fault where it is refused. Changes no byte.
+    /// Returns a reader of the extents of an image with this header, from the begin of the disk on. Reads the
+    /// L1 table, and returns its fault if that is refused. Changes no byte.
     pub fn new<S: Storage>(
         alloc: Global,
         image: &mut S,
@@ -227,8 +229,8 @@ impl<'a> Extents<'a> {
         })
     }
 
-    /// Goes to an offset, or to the disk's end where that comes before it. The next extent begins there, even
-    /// where its bytes go on from those before. The L2 table that is held stays. Reads nothing.
+    /// Moves to an offset, or to the disk's end if that is lower. The next extent begins there, even if its
+    /// bytes continue those before. Keeps the loaded L2 table, and reads nothing.
     pub fn seek(&mut self, offset: GuestOffset)
         ensures { self.new ≡ record self.old {
           position = min offset.0 self.old.header.v2.size;
@@ -239,7 +241,8 @@ impl<'a> Extents<'a> {
         self.ahead = None;
     }
 
-    // What the byte at an offset reads as, and up to where it surely goes on, at most the disk's size.
+    // Returns the content of the byte at an offset, and an offset up to which it continues, at most the
+    // disk's size.
     fn piece<S: Storage>(&mut self, image: &mut S, from: u64) -> Result<(Content, u64), Fault>
         requires within { from < self.old.header.v2.size }
         requires kept { OnImage (S.state image.old) (λ bytes.
@@ -264,7 +267,7 @@ impl<'a> Extents<'a> {
         piece_of_table(self.table.as_ref().unwrap(), from, size)
     }
 
-    // Goes past the extent at the position, and returns what it reads as.
+    // Moves past the extent at the position, and returns its content.
     fn pass_extent<S: Storage>(&mut self, image: &mut S) -> Result<Content, Fault>
         requires within { self.old.position < self.old.header.v2.size }
         requires kept { OnImage (S.state image.old) (λ bytes. IsReaderOf bytes self.old) }
@@ -295,13 +298,13 @@ impl<'a> Extents<'a> {
         Ok(content)
     }
 
-    /// The next extent, or nothing at the disk's end. The extents follow one another from offset 0 to the
-    /// disk's size. Each is as long as its bytes read as one: data and allocated zeros in one host cluster
-    /// after another, and other content of one kind.
+    /// Returns the next extent, or `None` at the disk's end. Extents are consecutive from offset 0 to the
+    /// disk's size, and each is as long as possible: data or allocated zeros in consecutive host clusters, or
+    /// bytes of one other content.
     ///
-    /// Returns the fault of an L2 table that has to be read to know where the extent ends. The reader then
-    /// stays before that extent, and the call can be made again. No fault of a table past the disk's size is
-    /// returned. The image must be the one that the reader was made for, unchanged since. Changes no byte.
+    /// Returns the fault of an L2 table that it must read to find the extent's end. The reader then stays
+    /// before that extent, and the call can be repeated. Never returns a fault of a table past the disk's
+    /// size. The image must be the one that the reader was made for, unchanged since. Changes no byte.
     pub fn next<S: Storage>(&mut self, image: &mut S) -> Result<Option<Extent>, Fault>
         requires { OnImage (S.state image.old) (λ bytes. IsReaderOf bytes self.old) }
         ensures extent { PassesExtent (S.state image.old) self.old result self.new.position }

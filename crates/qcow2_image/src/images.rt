@@ -1,4 +1,4 @@
-//! Lists of changes of an image: the table or block is loaded, changed, and written if it is modified.
+//! Edits of an image: loads a table or block, changes it, and writes it if it is modified.
 
 ghost use Rattle.std.specs.Prelude.{◌≡◌, ◌⊎◌, [], IfErr, IfOk, false, length};
 ghost use Rattle.qcow2_base.specs.Storage.{OnImage, OnImages};
@@ -16,22 +16,21 @@ use qcow2_edits::{Edit, Outcome, Step, StepReply, edit_table, step_block};
 use qcow2_metadata::{Header, L2Table, RefBlock};
 use std::alloc::Global;
 
-/// Makes all edits of the L2 table that begins with a cluster of an image with this header, one after the
-/// other. Writes the table if there was an edit. Returns what they did to references. At each host
-/// cluster, the references that the table has then and those handed back are together as many as those that
-/// it had before and those gained.
+/// Makes all edits of the L2 table that begins with a cluster of an image with this header, in order. Writes
+/// the table unless there are no edits. Returns the changes of references. For each host cluster, the table's
+/// references afterwards plus those freed are its references before plus those gained.
 ///
-/// Refuses a table that `L2Table::load` refuses: for an end past 2^56, then for the first entry that isn't
-/// valid. Then it refuses edits that don't all fit, by the position of the first that `edits_fit` names.
+/// Refuses a table that `L2Table::load` refuses: for an end past 2^56, then for the first invalid entry. Then
+/// refuses edits that don't all fit, with the position of the first, as `edits_fit` returns it.
 ///
-/// Suppose the table shares no byte with the image's first cluster and its L1 table. Then guest offsets of
-/// other tables that share none with it read as before, and its own as the edits say. Where no two tables
-/// of the image share a byte, and each offset can be looked up, that stays so. The references of all tables
-/// are then balanced as those of this one are.
+/// Suppose the table overlaps neither the image's first cluster nor its L1 table. Then guest offsets of other
+/// tables that don't overlap it read as before, and its own as the edits say. If no two tables of the image
+/// overlap, and each offset can be looked up, that remains so. The references of all tables then balance as
+/// those of this one do.
 ///
-/// After a storage fault some pieces of the table may be written, then any bytes may be in one, and those
-/// after it are as before. What the edits did is not returned. After any other fault no byte has changed.
-/// Bytes outside the table's cluster never do.
+/// A storage fault may leave some 4096-byte pieces of the table written and any bytes in the next one; those
+/// after it are unchanged. The call then doesn't return the changes of references. Any other fault changes no
+/// byte. Bytes outside the table's cluster never change.
 pub fn edit_image<S: Storage>(
     alloc: Global,
     image: &mut S,
@@ -57,15 +56,15 @@ pub fn edit_image<S: Storage>(
     Ok(outcome)
 }
 
-/// Makes all steps of the refcount block that begins with a cluster of an image with this header, one after
-/// the other. Writes the block if one of them was done, and returns what came of each.
+/// Makes all steps of the refcount block that begins with a cluster of an image with this header, in order.
+/// Writes the block if at least one step was done, and returns a reply for each.
 ///
-/// Refuses a block that `RefBlock::load` refuses, for an end past 2^56. Then it refuses steps whose indices
-/// aren't all in bounds, by the position of the first that isn't.
+/// Refuses a block that `RefBlock::load` refuses, for an end past 2^56. Then refuses steps whose indices
+/// aren't all in bounds, with the position of the first that isn't.
 ///
-/// After a storage fault some pieces of the block may be written, then any bytes may be in one, and those
-/// after it are as before. What came of the steps is not returned. After any other fault no byte has changed.
-/// Bytes outside the block's cluster never do.
+/// A storage fault may leave some 4096-byte pieces of the block written and any bytes in the next one; those
+/// after it are unchanged. The call then returns no replies. Any other fault changes no byte. Bytes outside
+/// the block's cluster never change.
 #[tactic(auto, using(crate::proofs::ImagesLemmas::refused_steps))]
 pub fn step_image<S: Storage>(
     alloc: Global,
@@ -95,7 +94,8 @@ pub fn step_image<S: Storage>(
     Ok(replies)
 }
 
-// Writes a table to the cluster that it was loaded from, if it is modified. Else the image has it there.
+// Writes a modified table to the cluster that it was loaded from. The image already has an unmodified one
+// there.
 #[tactic(auto, using(crate::proofs::ImagesLemmas::writes_back))]
 fn write_table_back<S: Storage>(
     table: &mut L2Table,
@@ -110,7 +110,8 @@ fn write_table_back<S: Storage>(
     table.write_if_modified(image, cluster)
 }
 
-// Writes a block to the cluster that it was loaded from, if it is modified. Else the image has it there.
+// Writes a modified block to the cluster that it was loaded from. The image already has an unmodified one
+// there.
 #[tactic(auto, using(crate::proofs::ImagesLemmas::writes_back))]
 fn write_block_back<S: Storage>(
     block: &mut RefBlock,

@@ -13,8 +13,8 @@ use qcow2_metadata::{Header, L1Table, L2Table, Table};
 use std::alloc::Global;
 use std::marker::Model;
 
-/// A walk over the L2 tables that an image's L1 table names, in its order. It holds the L1 table, and hands
-/// out one L2 table after the other. Clauses see it as what it has of the image and how far it has come.
+/// A walk over the L2 tables that an image's L1 table names, in its order. It has the L1 table in memory, and
+/// returns one L2 table after the other. In contracts it is these L1 entries, the header and the next index.
 #[derive(Drop)]
 pub struct L2Tables<'a> {
     header: &'a Header,
@@ -40,8 +40,8 @@ impl<'a> L2Tables<'a> {
     ghost use Rattle.std.specs.Prelude.{◌≡◌};
     ghost use Rattle.qcow2_image.specs.L2Tables.{GoesOn, IsTableOf, TellsTable, tables_left};
 
-    /// A walk over the L2 tables of an image with this header, before the first of them. Reads the L1 table,
-    /// and returns its fault where it is refused. Changes no byte.
+    /// Returns a walk over the L2 tables of an image with this header, before the first one. Reads the L1
+    /// table, and returns its fault if that is refused. Changes no byte.
     pub fn new<S: Storage>(
         alloc: Global,
         image: &mut S,
@@ -60,8 +60,8 @@ impl<'a> L2Tables<'a> {
         })
     }
 
-    /// The next L2 table, with the index of its L1 entry, or nothing after the last. Returns the fault of a
-    /// table that is refused, and stays before it then. Changes no byte.
+    /// Returns the next L2 table with the index of its L1 entry, or `None` after the last. Returns the fault
+    /// of a refused table, and stays before it. Changes no byte.
     pub fn next<S: Storage>(&mut self, image: &mut S) -> Result<Option<(usize, L2Table)>, Fault>
         ensures told { OnImage (S.state image.old) (λ bytes.
             TellsTable (tables_left self.old bytes) (tables_left self.new bytes) result) }

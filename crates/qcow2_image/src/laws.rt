@@ -14,15 +14,15 @@ ghost use Rattle.qcow2_image.specs.Extents.{AreExtents, Contents};
 ghost use Rattle.qcow2_image.specs.WholeImage.{HasTableApart, IsSoundImage, l2_clusters};
 ghost use Rattle.qcow2_image.specs.declared.extents.Extent.{Extent};
 
-/// A disk has one map: extents that follow one another from offset 0 to its size are determined by what its
-/// bytes read as.
+/// A disk has one map: consecutive extents from offset 0 to its size are determined by the content of its
+/// bytes.
 pub fn a_disk_has_one_map()
     ensures { (contents : Contents) (size : ℕ) (one other : List Extent) →
         AreExtents contents size 0 one size → AreExtents contents size 0 other size → one ≡ other }
 {}
 
-/// Where nothing is found of an image, an L2 table that an L1 entry names lies apart from the first cluster
-/// and the L1 table.
+/// If a check finds nothing in an image, an L2 table that an L1 entry names overlaps neither the first
+/// cluster nor the L1 table.
 pub fn an_l2_table_lies_apart_where_nothing_is_found()
     ensures { (tables : ImageTables) (image : Image) (k : ℕ) (cluster : HostCluster) →
         header_of image ≡ Ok tables.header → AreRight tables image 0 max_file_length →
@@ -30,8 +30,8 @@ pub fn an_l2_table_lies_apart_where_nothing_is_found()
         HasTableApart (geometry_of tables.header) cluster tables.header image }
 {}
 
-/// An image that can be checked, and of which nothing is found, is sound, if no two L1 entries name one L2
-/// table.
+/// An image that can be checked, and in which a check finds nothing, is sound if no two L1 entries name one
+/// L2 table.
 pub fn an_image_is_sound_where_nothing_is_found()
     ensures { (tables : ImageTables) (image : Image) →
         header_of image ≡ Ok tables.header → checked_tables tables.header image ≡ Ok tables →

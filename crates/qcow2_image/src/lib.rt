@@ -1,4 +1,4 @@
-//! A whole image: what a guest offset and its disk read as, and lists of changes of its tables and blocks.
+//! Whole images: mappings of guest offsets, extents of the disk, and edits of its tables and blocks.
 #![tactic(auto)]
 
 mod extents;

@@ -1,4 +1,4 @@
-//! What a guest offset reads as, by an image's header, L1 table and L2 table.
+//! Mappings of guest offsets, by an image's header, L1 table and L2 table.
 
 ghost use Rattle.std.specs.Prelude.{◌≡◌, ℕ, ◌*◌, ◌/◌, ◌^◌, ◌<◌, ◌≤◌, None, IfErr, IfOk, IfSome, IsOkAnd, IsSome, MatchOption, slice_index};
 ghost use Rattle.qcow2_metadata.specs.Entries.L2Mapping.{IsPlaced, meaning, backing};
@@ -14,12 +14,12 @@ use qcow2_check::{load_l1_table, load_l2_table, named_cluster};
 use qcow2_metadata::{Header, L1Table, L2Mapping, L2Table, Table};
 use std::alloc::Global;
 
-/// What the cluster of a guest offset reads as, in an image with this header and this L1 table, which share
-/// their cluster bits. Where the L1 table names no L2 table for it, or ends before it, that is the backing
-/// file from the cluster's own offset on. The size of the guest's disk isn't looked at.
+/// Returns the mapping of the cluster of a guest offset, in an image with this header and this L1 table,
+/// which have the same cluster bits. If the L1 table names no L2 table for it, or ends before it, that is the
+/// backing file from the cluster's own offset on. Doesn't check the offset against the disk's size.
 ///
-/// Reads at most that one L2 table, and returns the fault of its first bad entry, wherever in the table that
-/// is. Changes no byte.
+/// Reads at most that one L2 table, and returns the fault of its first invalid entry, wherever that is in the
+/// table. Changes no byte.
 #[tactic(auto, using(crate::proofs::LookupsLemmas::cluster_fits))]
 pub fn lookup<S: Storage>(
     alloc: Global,
@@ -33,7 +33,7 @@ pub fn lookup<S: Storage>(
         (guest_mapping (geometry_of header.now) l1_table.now.numbers guest_offset.0)
         IsEntryFault (S.state image.old) (S.state image.new) }
 
-    // Where there is no L2 table, the image isn't read.
+    // Without an L2 table the call doesn't read the image.
     ensures unmapped { let cb = header.now.v2.cluster_bits in
         l2_cluster cb l1_table.now.numbers (guest_offset.0 / 2 ^ cb) ≡ None →
         IsOkAnd result (λ found. meaning found ≡ backing (guest_offset.0 / 2 ^ cb * 2 ^ cb))
@@ -50,11 +50,11 @@ pub fn lookup<S: Storage>(
     l2_table.get_mapping(guest_cluster)
 }
 
-/// What the cluster of a guest offset reads as, by the image alone. The size of the guest's disk isn't
-/// looked at.
+/// Returns the mapping of the cluster of a guest offset, by the image alone. Doesn't check the offset against
+/// the disk's size.
 ///
-/// Reads the header, the L1 table and at most one L2 table, and returns the fault of the first of them that
-/// is refused: one of 1 to 21, and 34 or 35 may come in its place. Changes no byte.
+/// Reads the header, the L1 table and at most one L2 table, and returns the fault of the first that it
+/// refuses: one of 1 to 21, or 34 or 35 instead. Changes no byte.
 pub fn lookup_image<S: Storage>(
     alloc: Global,
     image: &mut S,
@@ -67,7 +67,7 @@ pub fn lookup_image<S: Storage>(
     lookup_with_header(alloc, image, &header, guest_offset)
 }
 
-/// What the cluster of a guest offset reads as, in an image with this header.
+/// Returns the mapping of the cluster of a guest offset, in an image with this header.
 pub fn lookup_with_header<S: Storage>(
     alloc: Global,
     image: &mut S,
@@ -82,7 +82,7 @@ pub fn lookup_with_header<S: Storage>(
     lookup(alloc, image, header, &l1_table, guest_offset)
 }
 
-/// The first L1 entry from an index on that names an L2 table, if there is one.
+/// Returns the index of the first L1 entry from `first` on that names an L2 table, or `None`.
 #[tactic(auto, using(crate::proofs::ExtentsLemmas::unnamed_from, crate::proofs::ExtentsLemmas::unnamed_more))]
 pub(crate) fn next_named(l1_table: &L1Table, first: usize) -> Option<usize>
     ensures { let cb = l1_table.now.geometry.cluster_bits in
@@ -100,7 +100,8 @@ pub(crate) fn next_named(l1_table: &L1Table, first: usize) -> Option<usize>
     None
 }
 
-/// The cluster that the L2 table of a guest cluster begins with, if there is one. It ends by 2^56.
+/// Returns the first cluster of the L2 table of a guest cluster, or `None`. That table's cluster ends at or
+/// below 2^56.
 pub(crate) fn l2_cluster(l1_table: &L1Table, guest_cluster: GuestCluster) -> Option<HostCluster>
     ensures value { let cb = l1_table.now.geometry.cluster_bits in
         result ≡ l2_cluster cb l1_table.now.numbers guest_cluster.0 }

@@ -1,4 +1,4 @@
-//! Locks of files, as the system lists them.
+//! File locks, as the system lists them.
 
 ghost use Rattle.std.specs.Prelude.{◌≡◌, ◌↔◌, IsTrue};
 ghost use Rattle.qcow2_locks.specs.FileLock.{BarsWriting, HasByte};
@@ -7,7 +7,7 @@ use qcow2_base::field;
 use std::fs::Metadata;
 use std::os::unix::fs::MetadataExt;
 
-/// A file, as a list of locks names it: both parts of its device's number, and the file's number there.
+/// A file, as a list of locks names it: its device's major and minor number, and its inode number.
 #[derive(Clone, Copy, Debug, PartialEq, Eq)]
 pub struct FileId {
     pub major: u64,
@@ -16,7 +16,7 @@ pub struct FileId {
 }
 
 impl FileId {
-    /// The file that has this metadata. Each part of its device's number lies there in two pieces.
+    /// Returns the file with this metadata. Each part of the device number is in two places there.
     pub fn of(metadata: &Metadata) -> FileId {
         let device = metadata.dev();
         FileId {
@@ -26,7 +26,7 @@ impl FileId {
         }
     }
 
-    // `fe:00:1097734`, where the device is hexadecimal.
+    // Parses `fe:00:1097734`: the device in hexadecimal, the inode in decimal.
     fn parse(text: &str) -> Option<FileId> {
         let (major, rest) = text.split_once(':')?;
         let (minor, inode) = rest.split_once(':')?;
@@ -38,7 +38,7 @@ impl FileId {
     }
 }
 
-/// What a lock is of.
+/// What a lock covers.
 #[derive(Clone, Copy, Debug, PartialEq, Eq)]
 pub enum LockKind {
     /// Bytes of a file: `OFDLCK` or `POSIX`.
@@ -57,7 +57,7 @@ impl LockKind {
     }
 }
 
-/// A lock that somebody has or waits for, from the first of its bytes to the last one.
+/// A lock that a process has or waits for, with its first and last byte.
 #[derive(Clone, Copy, Debug, PartialEq, Eq)]
 pub struct FileLock {
     pub kind: LockKind,
@@ -67,9 +67,9 @@ pub struct FileLock {
 }
 
 impl FileLock {
-    /// The lock of a line of `/proc/locks`, as `1: OFDLCK ADVISORY  READ -1 fe:00:1097734 100 101`. One that
-    /// is waited for has `->` after the number. Nothing for a lock of another kind, such as a lease, and for
-    /// other text.
+    /// Parses a line of `/proc/locks`, as `1: OFDLCK ADVISORY  READ -1 fe:00:1097734 100 101`. A lock that a
+    /// process waits for has `->` after the number. Returns `None` for a lock of another kind, such as a
+    /// lease, and for any other text.
     pub fn parse(line: &str) -> Option<FileLock> {
         let mut words = line.split_whitespace().skip(1);
         let mut word = words.next()?;
@@ -87,8 +87,8 @@ impl FileLock {
         })
     }
 
-    /// Whether the lock says that somebody writes to the file, or lets nobody else write to it, as QEMU's
-    /// programs say so: by byte 101, 103, 201 or 203.
+    /// Whether the lock covers byte 101, 103, 201 or 203 of the file: QEMU's programs lock these bytes to say
+    /// that they write to the image, or let nobody else write.
     pub fn bars_writing(&self, file: &FileId) -> bool
         ensures { IsTrue result ↔ BarsWriting self.now file.now }
     {
@@ -100,7 +100,7 @@ impl FileLock {
                 || self.has_byte(203))
     }
 
-    // Whether a byte is one of the lock's.
+    // Whether the lock covers a byte.
     fn has_byte(&self, byte: u64) -> bool
         ensures { IsTrue result ↔ HasByte self.now byte }
     {
@@ -108,7 +108,7 @@ impl FileLock {
     }
 }
 
-// The last byte of a lock, or the greatest number for one that goes on to the end of the file.
+// Parses the last byte of a lock: the greatest number for a lock up to the end of the file.
 fn parse_last(word: &str) -> Option<u64> {
     match word {
         "EOF" => Some(u64::MAX),

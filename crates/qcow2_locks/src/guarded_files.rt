@@ -1,4 +1,4 @@
-//! Files that aren't written to any more once another program has come to the image.
+//! Files that refuse writes once another program has opened the image.
 
 ghost use Rattle.qcow2_base.specs.Storage.ImageFile.{unknown_content};
 ghost use Rattle.qcow2_base.specs.Storage.ImageFiles.{ClosesImage, unknown_file};
@@ -12,9 +12,9 @@ use std::io;
 use std::io::{ErrorKind, Read, Seek, SeekFrom, Write};
 use std::rt::Files;
 
-/// The files of a run, whose image is open already and may be held. The system's list of locks is read before
-/// the first write to a held image, before the first write after each wait for the device, and after each
-/// such wait. A write or a wait fails where another program has the image open by then.
+/// The files of a run, whose image is open already and may be held. Reads the system's list of locks before
+/// the first write to a held image, before the first write after each sync, and after each sync. A write or
+/// sync fails if another program has the image open by then.
 #[derive(Drop)]
 pub struct GuardedFiles<'a, R, F> {
     rt: &'a R,
@@ -23,25 +23,25 @@ pub struct GuardedFiles<'a, R, F> {
 }
 
 impl<'a, R, F> GuardedFiles<'a, R, F> {
-    /// The image is opened once, as this file. Other files are opened by the runtime, and the list of locks
-    /// is read by it.
+    /// Returns the files of a run. The first `open_image` takes this file; later ones fail. The runtime opens
+    /// all other files, and reads the list of locks.
     pub fn new(rt: &'a R, image: Option<F>, held: Option<&'a HeldImage>) -> GuardedFiles<'a, R, F> {
         GuardedFiles { rt, image, held }
     }
 }
 
-/// A file that is written to only while no other program has come to the image.
+/// A file that accepts writes only as long as no other program has opened the image.
 #[derive(Drop)]
 pub struct GuardedFile<'a, R, F> {
     file: F,
     rt: &'a R,
     held: Option<&'a HeldImage>,
-    // whether the list was read since the last wait
+    // whether the list was read since the last sync
     may_write: Cell<bool>,
 }
 
 impl<R: Files, F> GuardedFile<'_, R, F> {
-    // Fails where another program has come to the image.
+    // Fails if another program has opened the image.
     fn refuse_others(&self) -> io::Result<()> {
         let Some(held) = self.held else {
             return Ok(());
@@ -53,7 +53,7 @@ impl<R: Files, F> GuardedFile<'_, R, F> {
         }
     }
 
-    // The same before a change, unless it was asked since the last wait.
+    // Does so before a write, unless it did since the last sync.
     fn begin_change(&self) -> io::Result<()> {
         if !self.may_write.get() {
             self.refuse_others()?;
@@ -62,7 +62,7 @@ impl<R: Files, F> GuardedFile<'_, R, F> {
         Ok(())
     }
 
-    // The same after a wait.
+    // Does so after a sync.
     fn end_changes(&self) -> io::Result<()> {
         self.may_write.set(false);
         self.refuse_others()

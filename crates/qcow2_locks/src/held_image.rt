@@ -1,4 +1,4 @@
-//! An image that is held while it is changed.
+//! An image that this program holds while it changes it.
 
 ghost use Rattle.std.specs.Prelude.{◌≡◌, IfErr};
 ghost use Rattle.qcow2_locks.specs.HeldImage.{IsHoldFault};
@@ -12,29 +12,29 @@ use std::io;
 use std::os::fd::AsRawFd;
 use std::rt::Files;
 
-/// What becomes of an image that is to be changed where the system's list of locks says nothing of it.
+/// Whether to change an image if the system's list of locks can't show who has it open.
 #[derive(Clone, Copy, Debug, PartialEq, Eq)]
 pub enum Unlisted {
-    /// Fault 39: another program may have it open.
+    /// Refuse with fault 39: another program may have it open.
     Refuse,
-    /// It is changed, whoever else has it open.
+    /// Change it, whoever else has it open.
     Allow,
 }
 
-/// An image that is held, until this is dropped or the program ends.
+/// An image that this program holds until this value is dropped or the program ends.
 #[derive(Debug, Drop)]
 pub struct HeldImage {
     file: File,
-    // The file as the system's list of locks names it, unless that says nothing of it.
+    // The file as the system's list of locks names it, or `None` if the list doesn't show it.
     id: Option<FileId>,
     unlisted: Unlisted,
     has_come: Cell<bool>,
 }
 
 impl HeldImage {
-    /// Refuses the image where another program has it open as QEMU's programs do, now or when this was called
-    /// before, by fault 39. The system's list of locks is read, and no memory taken. Fault 34 where a call of
-    /// the system fails.
+    /// Refuses with fault 39 if another program has the image open as QEMU's programs do, or had it at an
+    /// earlier call. Reads the system's list of locks, and allocates nothing. Refuses with fault 34 if a
+    /// system call fails.
     pub fn refuse_others<R: Files>(&self, rt: &R) -> Result<(), Fault>
         ensures faults { IfErr result IsHoldFault }
     {
@@ -47,19 +47,19 @@ impl HeldImage {
         Ok(())
     }
 
-    /// Another handle of the image's open file. All handles share one position.
+    /// Returns another handle of the open image file. All handles share one position.
     pub fn share_file(&self) -> Result<File, Fault>
         ensures faults { IfErr result IsHoldFault }
     {
         self.file.try_clone().map_err(|_| Fault::Storage)
     }
 
-    /// Whether another program has come to the image, as far as `refuse_others` has seen.
+    /// Whether `refuse_others` has seen another program with the image open.
     pub fn has_come(&self) -> bool {
         self.has_come.get()
     }
 
-    // Whether the image may not be changed, by the system's list.
+    // Whether the system's list forbids to change the image.
     fn is_barred<R: Files>(&self, rt: &R) -> Result<bool, Fault>
         ensures faults { IfErr result IsHoldFault }
     {
@@ -71,13 +71,15 @@ impl HeldImage {
     }
 }
 
-/// Opens the image of a path to be changed, and holds it alone. Nothing of it is read or written.
+/// Opens the image of a path for changes, and holds it alone. Reads and writes none of its bytes.
 ///
-/// Fault 39 where somebody holds it already, or has it open as QEMU's programs do: to write to it, or to
-/// read it and let nobody write. Also, unless that is allowed, where the system's list of locks can't be
-/// read, or doesn't have the lock by which the image is held here. Fault 34 where the file can't be opened
-/// for both, or a call of the system fails. It goes on where the file system has no such locks. Who opens
-/// the image later is kept away only where they make this call too: `HeldImage::refuse_others` sees them.
+/// Refuses with fault 39 if another process holds it, or has it open as QEMU's programs do: to write, or to
+/// read while nobody writes. Unless `unlisted` allows it, also refuses if the system's list of locks can't be
+/// read, or doesn't have this program's own lock. Refuses with fault 34 if the file can't be opened for
+/// reading and writing, or a system call fails. Continues if the file system has no such locks.
+///
+/// This keeps away only programs that make this call too. `HeldImage::refuse_others` sees the others that
+/// open the image later.
 pub fn hold_alone<R: Files<File = File> + AllocGlobal>(
     rt: &R,
     path: &str,
@@ -107,7 +109,7 @@ pub fn hold_alone<R: Files<File = File> + AllocGlobal>(
     Ok(held)
 }
 
-// Goes on only where an error of the system says that the file can't be locked: EINVAL, ENOLCK, ENOSYS or
+// Continues only if the system's error says that the file can't be locked: EINVAL, ENOLCK, ENOSYS or
 // EOPNOTSUPP.
 fn refuse_failed(error: &io::Error) -> Result<(), Fault>
     ensures faults { IfErr result IsHoldFault }
@@ -118,8 +120,8 @@ fn refuse_failed(error: &io::Error) -> Result<(), Fault>
     }
 }
 
-// A file whose lock is held here, as the system's list of locks names it. Where that doesn't have this
-// lock it has no other one of the file either.
+// Returns a file that this program has locked, as the system's list of locks names it. A list without this
+// lock doesn't have other locks of the file either.
 fn listed_file<R: Files + AllocGlobal>(
     rt: &R,
     file: &File,
@@ -135,7 +137,7 @@ fn listed_file<R: Files + AllocGlobal>(
     Ok(id)
 }
 
-// The file of the first lock that is listed for a descriptor.
+// Returns the file of the first lock that is listed for a descriptor.
 fn locked_file(descriptor: &str) -> Option<FileId> {
     let line = descriptor
         .lines()

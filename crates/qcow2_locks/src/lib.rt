@@ -1,4 +1,4 @@
-//! Keeps an image from being changed by two programs at once.
+//! Keeps two programs from changing an image at once.
 #![tactic(auto)]
 
 mod file_lock;

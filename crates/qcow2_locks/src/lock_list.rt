@@ -14,22 +14,22 @@ use std::str::from_utf8;
 
 const LIST: &str = "/proc/locks";
 
-// More than any line of the list has.
+// The size of the read buffer, in bytes; every line of the list is shorter.
 const MOST_READ: usize = 4096;
 
-// What a list says of a file that is locked here. The last of these that it says counts.
+// The finding of a list about a file that this program has locked. The greatest finding counts.
 #[derive(Clone, Copy, Debug, PartialEq, Eq, PartialOrd, Ord)]
 enum Found {
-    /// It doesn't have the file.
+    /// The list doesn't have the file.
     Nothing,
-    /// It has the lock from here.
+    /// The list has this program's lock on the whole file.
     Whole,
-    /// It has a lock that bars writing.
+    /// The list has a lock that forbids writes.
     Bar,
 }
 
 impl Found {
-    // What a lock says of a file.
+    // Returns the finding of one lock about a file.
     fn of(lock: &FileLock, file: &FileId) -> Found {
         if lock.bars_writing(file) {
             Found::Bar
@@ -41,9 +41,9 @@ impl Found {
     }
 }
 
-/// The system's list of locks, a line each, as `FileLock::parse` reads them. Nothing where the system has
-/// no list, or none that may be read, or doesn't say which locks are those of this program. Fault 34 where
-/// a call of the system fails.
+/// Returns the system's list of locks, with lines that `FileLock::parse` reads. Returns `None` if the system
+/// has no list or none that this program may read, or doesn't tell which locks this program has. Refuses with
+/// fault 34 if a system call fails.
 pub fn listed_locks<R: Files + AllocGlobal>(rt: &R) -> Result<Option<String>, Fault>
     ensures faults { IfErr result IsHoldFault }
 {
@@ -53,8 +53,8 @@ pub fn listed_locks<R: Files + AllocGlobal>(rt: &R) -> Result<Option<String>, Fa
     }
 }
 
-/// The locks of a descriptor of this program, each in a line of the list after `lock:`, among other lines.
-/// Nothing where the system doesn't say that.
+/// Returns the locks of a descriptor of this program: lines of the list, each after `lock:`, among other
+/// lines. Returns `None` if the system doesn't tell.
 pub(crate) fn own_locks<R: Files + AllocGlobal>(
     rt: &R,
     descriptor: i32,
@@ -65,7 +65,7 @@ pub(crate) fn own_locks<R: Files + AllocGlobal>(
     text_of(rt, path.as_str())
 }
 
-// What a file of the system says, or nothing where there is none, or none that may be read.
+// Returns the text of a system file, or `None` if it doesn't exist or this program may not read it.
 fn text_of<R: Files + AllocGlobal>(rt: &R, path: &str) -> Result<Option<String>, Fault>
     ensures faults { IfErr result IsHoldFault }
 {
@@ -81,14 +81,14 @@ fn text_of<R: Files + AllocGlobal>(rt: &R, path: &str) -> Result<Option<String>,
     }
 }
 
-// The text of a file. It is asked for in more than a page at once, since a list can change between two reads.
+// Returns the text of a file. Reads more than a page at once, since a list can change between two reads.
 fn read_all<F: Read + Drop>(alloc: Global, file: F) -> io::Result<String> {
     io::read_to_string(alloc, BufReader::new(alloc, file)?)
 }
 
-/// Whether one of the locks that the system lists bars writing to a file that is locked here. Nothing where
-/// the list can't be read, or doesn't have the lock from here. It takes no memory, so that a change that has
-/// begun isn't broken off for want of it.
+/// Whether a listed lock forbids writes to a file that this program has locked. Returns `None` if the list
+/// can't be read, or doesn't have this program's lock. Allocates nothing, so that a change in progress can't
+/// fail for lack of memory.
 pub(crate) fn is_barred<R: Files>(rt: &R, file: &FileId) -> Result<Option<bool>, Fault>
     ensures faults { IfErr result IsHoldFault }
 {
@@ -104,7 +104,7 @@ pub(crate) fn is_barred<R: Files>(rt: &R, file: &FileId) -> Result<Option<bool>,
     }
 }
 
-// Whether an error says that a file of the system isn't there, or may not be read.
+// Whether the error says that a system file doesn't exist, or that this program may not read it.
 fn is_unreadable(error: &Error) -> bool {
     matches!(
         error.kind(),
@@ -112,7 +112,7 @@ fn is_unreadable(error: &Error) -> bool {
     )
 }
 
-// What the locks of a list say of a file. The line that a read ends in is kept until the next one.
+// Returns the finding of all listed locks about a file. A line that a read cuts waits for the next read.
 fn find_locks<F: Read>(list: &mut F, file: &FileId) -> io::Result<Found> {
     let mut text = [0; MOST_READ];
     let mut kept = 0;
@@ -130,7 +130,7 @@ fn find_locks<F: Read>(list: &mut F, file: &FileId) -> io::Result<Found> {
     Err(ErrorKind::Interrupted.into())
 }
 
-// Reads some bytes, or none at the end. Fails where there is no room for any.
+// Reads some bytes, or none at the end. Fails if the buffer is empty.
 fn read_some<F: Read>(list: &mut F, buf: &mut [u8]) -> io::Result<usize>
     ensures { IfOk result (λ count. count ≤ length buf.old) }
 {
@@ -143,7 +143,7 @@ fn read_some<F: Read>(list: &mut F, buf: &mut [u8]) -> io::Result<usize>
     }
 }
 
-// How many bytes of a text its whole lines have.
+// Returns the length of the text's whole lines, in bytes.
 fn whole_lines(text: &[u8]) -> usize
     ensures { result ≤ length text.now }
 {
@@ -153,7 +153,7 @@ fn whole_lines(text: &[u8]) -> usize
     }
 }
 
-// What these lines say of a file.
+// Returns the finding of these lines about a file.
 fn found_in(lines: &[u8], file: &FileId) -> io::Result<Found> {
     let Ok(lines) = from_utf8(lines) else {
         return Err(ErrorKind::InvalidData.into());
