@@ -1,4 +1,4 @@
-//! What an image's header says.
+//! The header of an image.
 
 ghost use Rattle.std.specs.Prelude.{◌≡◌, ◌⊎◌, ◌+◌, ◌-◌, ◌^◌, ◌≤◌, IsOkUnless, IfOk, MatchResult, None, map, option_map, string_bytes};
 ghost use Rattle.qcow2_base.specs.Types.{IsClusterBits, IsRefblockBits};
@@ -33,13 +33,13 @@ use qcow2_base::{
 use std::alloc::Global;
 use std::marker::Model;
 
-// The type of the extension that says where an encryption header lies.
+// The type of the extension that points to the encryption header.
 const ENCRYPTION: u32 = 0x0537be77;
 
-// The kind of encryption that is called LUKS. It keeps its keys in clusters, and later kinds may do so too.
+// The encryption method LUKS, which keeps its keys in clusters. Later methods may do so too.
 const LUKS: u32 = 2;
 
-/// The header of an image in memory. Clauses see it as its record.
+/// The header of an image in memory. In contracts it is its record.
 #[derive(Debug, Drop)]
 pub struct Header {
     alloc: Global,
@@ -81,11 +81,11 @@ impl Header {
     ghost use Rattle.qcow2_metadata.specs.Header.Extensions.{feature_name_in, name_in};
     ghost use Rattle.qcow2_metadata.specs.declared.header.extensions.HeaderExtensionType.TheVariants as kind;
 
-    /// A header of version 3 for an image that is to be made. Guest data lies in the image, or in an
-    /// external data file where one is named.
+    /// Returns a header of version 3 for a new image. Guest data lies in the image, or in the external data
+    /// file if there is one.
     ///
-    /// `cluster_bits` is the logarithm of the cluster size in bytes, `refcount_order` that of the
-    /// width of a refcount in bits. Fails only where memory runs out.
+    /// `cluster_bits` is the logarithm of the cluster size in bytes, `refcount_order` that of the width of a
+    /// refcount in bits. Fails only if memory runs out.
     pub fn new(
         alloc: Global,
         cluster_bits: u32,
@@ -129,14 +129,14 @@ impl Header {
         })
     }
 
-    // What holds of every header.
+    // Proves that the header is valid.
     pub(crate) fn validity(&self)
         ensures { IsValidHeader self.now }
     {
         let _ = &self.v2;
     }
 
-    /// The logarithm of the cluster size in bytes, from 9 to 21.
+    /// Returns the logarithm of the cluster size in bytes, from 9 to 21.
     #[inline]
     pub fn cluster_bits(&self) -> u32
         ensures value { result ≡ self.now.v2.cluster_bits }
@@ -145,7 +145,7 @@ impl Header {
         self.v2.cluster_bits
     }
 
-    /// The cluster size in bytes.
+    /// Returns the cluster size in bytes.
     #[inline]
     #[tactic(auto, using(crate::proofs::HeaderLemmas::powers))]
     pub fn cluster_size(&self) -> usize
@@ -155,7 +155,7 @@ impl Header {
         1 << self.v2.cluster_bits
     }
 
-    /// The number of entries in an L2 table, which fills one cluster with eight bytes each.
+    /// Returns the number of entries in an L2 table, which fills one cluster with eight bytes each.
     #[inline]
     #[tactic(auto, using(crate::proofs::HeaderLemmas::powers))]
     pub fn l2_entries(&self) -> usize
@@ -174,7 +174,7 @@ impl Header {
         self.base.incompatible_features >> EXTERNAL_DATA_FILE_BIT & 1 == 1
     }
 
-    /// The size of the guest's disk, in bytes.
+    /// Returns the size of the guest's disk, in bytes.
     #[inline]
     pub fn size(&self) -> u64
         ensures { result ≡ self.now.v2.size }
@@ -182,7 +182,7 @@ impl Header {
         self.v2.size
     }
 
-    /// The logarithm of the width of a refcount in bits, from 0 to 6.
+    /// Returns the logarithm of the width of a refcount in bits, from 0 to 6.
     #[inline]
     pub fn refcount_order(&self) -> u32
         ensures value { result ≡ self.now.base.refcount_order }
@@ -191,7 +191,7 @@ impl Header {
         self.base.refcount_order
     }
 
-    /// The logarithm of the number of refcounts in a refcount block, which fills one cluster.
+    /// Returns the logarithm of the number of refcounts in a refcount block, which fills one cluster.
     #[inline]
     pub fn rb_bits(&self) -> u32
         ensures value { result ≡ self.now.v2.cluster_bits + 3 - self.now.base.refcount_order }
@@ -200,7 +200,7 @@ impl Header {
         self.v2.cluster_bits + 3 - self.base.refcount_order
     }
 
-    /// The number of refcounts in a refcount block.
+    /// Returns the number of refcounts in a refcount block.
     #[inline]
     #[tactic(auto, using(crate::proofs::HeaderLemmas::powers))]
     pub fn rb_entries(&self) -> usize
@@ -211,7 +211,7 @@ impl Header {
         1 << self.rb_bits()
     }
 
-    /// Where the L1 table begins.
+    /// Returns the offset of the L1 table.
     #[inline]
     pub fn l1_table_offset(&self) -> HostOffset
         ensures { result.0 ≡ self.now.v2.l1_table_offset }
@@ -219,7 +219,7 @@ impl Header {
         HostOffset(self.v2.l1_table_offset)
     }
 
-    /// How many entries the L1 table has.
+    /// Returns the number of entries of the L1 table.
     #[inline]
     pub fn l1_table_entries(&self) -> usize
         ensures value { result ≡ self.now.v2.l1_size }
@@ -228,7 +228,7 @@ impl Header {
         self.v2.l1_size as usize
     }
 
-    /// Where the refcount table begins.
+    /// Returns the offset of the refcount table.
     #[inline]
     pub fn reftable_offset(&self) -> HostOffset
         ensures { result.0 ≡ self.now.v2.refcount_table_offset }
@@ -236,7 +236,7 @@ impl Header {
         HostOffset(self.v2.refcount_table_offset)
     }
 
-    /// How many clusters the refcount table takes.
+    /// Returns the number of clusters of the refcount table.
     #[inline]
     pub fn reftable_clusters(&self) -> ClusterCount
         ensures value { result.0 ≡ self.now.v2.refcount_table_clusters }
@@ -245,7 +245,7 @@ impl Header {
         ClusterCount(self.v2.refcount_table_clusters as u64)
     }
 
-    /// How many entries the refcount table has: it fills its clusters with eight bytes each.
+    /// Returns the number of entries of the refcount table, which fills its clusters with eight bytes each.
     #[inline]
     pub fn reftable_entries(&self) -> usize
         ensures value { result
@@ -255,7 +255,7 @@ impl Header {
         self.v2.refcount_table_clusters as usize * self.l2_entries()
     }
 
-    /// The name of the backing file, whose data the guest sees where the image has none.
+    /// Returns the name of the backing file, which has the guest's data wherever the image maps none.
     #[inline]
     pub fn backing_filename(&self) -> Option<&String>
         ensures { option_map (λ name. string_bytes name.now) result ≡ self.now.backing_filename }
@@ -263,7 +263,7 @@ impl Header {
         self.backing_filename.as_ref()
     }
 
-    /// The format of the backing file: the first that a header extension says.
+    /// Returns the format of the backing file: the first one in a header extension.
     pub fn backing_format(&self) -> Option<&String>
         ensures { option_map (λ name. string_bytes name.now) result
             ≡ first_by (name_in kind.BackingFileFormat) self.now.extensions }
@@ -271,7 +271,7 @@ impl Header {
         first_name(&self.extensions, HeaderExtensionType::BackingFileFormat)
     }
 
-    /// The name of the external data file: the first that a header extension says.
+    /// Returns the name of the external data file: the first one in a header extension.
     pub fn external_data_filename(&self) -> Option<&String>
         ensures { option_map (λ name. string_bytes name.now) result
             ≡ first_by (name_in kind.ExternalDataFileName) self.now.extensions }
@@ -279,8 +279,8 @@ impl Header {
         first_name(&self.extensions, HeaderExtensionType::ExternalDataFileName)
     }
 
-    /// What a feature is called: the name in the first feature name table that has one. No feature has
-    /// a bit past 63, and no table a name for a bit past 255.
+    /// Returns the name of a feature, from the first feature name table that has one. No feature has a bit
+    /// past 63, and no table a name for a bit past 255.
     pub fn feature_name(&self, feature_type: FeatureType, bit: u32) -> Option<&String>
         ensures named { bit < 256 → option_map (λ name. string_bytes name.now) result
             ≡ first_by (feature_name_in (feature_type, bit)) self.now.extensions }
@@ -295,9 +295,10 @@ impl Header {
         None
     }
 
-    /// The first part of the image that refers to clusters and that isn't read here, if it has one:
-    /// snapshots, bitmaps, or encryption that keeps keys in clusters. That is known by an extension, or by a
-    /// `crypt_method` of 2 (LUKS) or more. Extensions of version 2 aren't read, so the field alone shows it.
+    /// Returns the first part of the image that refers to clusters and that these crates don't read, if it
+    /// has one: snapshots, bitmaps, or encryption with keys in clusters. An extension shows the last two; a
+    /// `crypt_method` of 2 (LUKS) or more shows encryption too. Extensions of version 2 aren't read, so there
+    /// only the header fields show a part.
     pub fn uncounted_part(&self) -> Option<UncountedPart>
         ensures { result ≡ uncounted_part self.now }
     {
@@ -311,9 +312,9 @@ impl Header {
         has_keys.then_some(UncountedPart::Encryption)
     }
 
-    /// How many persistent bitmaps the image has that agree with its disk: the number in the bitmaps
-    /// extension, where the autoclear bit says that they do. A change of the disk clears the bit, and they
-    /// are stale then.
+    /// Returns the number of persistent bitmaps that agree with the disk: the number in the bitmaps
+    /// extension, or `None` if the autoclear bit is clear. A change of the disk clears that bit, and the
+    /// bitmaps are then stale.
     pub fn consistent_bitmaps(&self) -> Option<u32>
         ensures { result ≡ consistent_bitmaps self.now }
     {
@@ -323,7 +324,7 @@ impl Header {
         first_bitmap_count(&self.extensions)
     }
 
-    /// The version of the format, 2 or 3.
+    /// Returns the version of the format, 2 or 3.
     #[inline]
     pub fn version(&self) -> u32
         ensures value { result ≡ self.now.v2.version }
@@ -332,7 +333,7 @@ impl Header {
         self.v2.version
     }
 
-    /// Refuses a header of an older version than this, by fault 27.
+    /// Refuses a header of a version below `minimum` with fault 27.
     pub fn require_version(&self, minimum: u32) -> Result<(), Fault>
         ensures { MatchResult result (λ _. minimum ≤ self.now.v2.version)
             (λ fault. (self.now.v2.version < minimum) × (fault ≡ Fault.VersionNeeded)) }

@@ -1,4 +1,4 @@
-//! What a qcow2 image says about itself: its header, its tables and their entries, its refcount blocks.
+//! The metadata of a qcow2 image: its header, its tables and their entries, its refcount blocks.
 #![tactic(auto)]
 
 mod entries;

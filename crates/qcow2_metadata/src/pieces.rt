@@ -1,4 +1,4 @@
-//! What takes a range of bytes in an image is written there in pieces of 4096 bytes, through one array.
+//! Writes a range of an image's bytes in pieces of 4096 bytes, through one array.
 
 ghost use Rattle.std.specs.Prelude.{◌≡◌, ℕ, ◌+◌, ◌-◌, ◌*◌, ◌<◌, ◌≤◌, length, List, min, slice_index, ◌≢◌, IfErr, IfOk, MatchResult};
 ghost use Rattle.qcow2_base.specs.Format.{max_file_length};
@@ -8,22 +8,22 @@ ghost use Rattle.qcow2_metadata.specs.Placed.{Layout, ReadsBack, offset_of, plac
 
 use qcow2_base::{Fault, HostCluster, HostOffset, Storage, StorageFault};
 
-/// How many bytes of a table or of a block are read or written at once, at most.
+/// The greatest number of bytes of a table or block that one call reads or writes.
 pub(crate) const PIECE_BYTES: usize = 4096;
 
-/// Numbers whose bytes are written in pieces.
+/// Numbers that are written as bytes, in pieces.
 pub(crate) trait Packed {
-    /// How the numbers lie in an image.
+    /// The layout of the numbers in an image.
     ghost layout: { Self → Layout };
 
     /// The numbers.
     ghost numbers: { Self → List ℕ };
 
-    /// How many bytes there are.
+    /// Returns the number of bytes.
     fn byte_count(&self) -> usize
         ensures { result ≡ (layout self.now).byte_count };
 
-    /// Where the bytes begin that start with a cluster, or why they can't lie there.
+    /// Returns the offset of the bytes if they begin with a cluster, or the fault why they can't lie there.
     fn offset_at(&self, cluster: HostCluster) -> Result<HostOffset, Fault>
         ensures place { MatchResult result
             (λ offset. place_fault (layout self.now) cluster ≡ None)
@@ -34,7 +34,7 @@ pub(crate) trait Packed {
             offset.0 + (layout self.now).byte_count ≤ max_file_length) }
         ensures reads_back { ReadsBack (layout self.now) (numbers self.now) };
 
-    /// Puts the bytes of a piece into the buffer, which is as long as that piece.
+    /// Stores the bytes of a piece in the buffer, which must have that piece's length.
     fn pack(&self, piece: usize, buffer: &mut [u8])
         requires piece { piece_size * piece < (layout self.now).byte_count }
         requires bound { (layout self.now).byte_count ≤ max_file_length }
@@ -46,7 +46,7 @@ pub(crate) trait Packed {
         ensures len { length buffer.new ≡ length buffer.old };
 }
 
-/// Which pieces are written: all, or those alone that the image doesn't have already.
+/// The pieces to write: all, or only those that differ from the image.
 #[derive(Clone, Copy, Debug)]
 pub(crate) enum Pieces {
     All,
@@ -70,7 +70,7 @@ fn write_piece<S: Storage>(
     }
 }
 
-// The same where the image doesn't have them there already.
+// Does so only if the image has other bytes there.
 fn write_changed<S: Storage>(image: &mut S, buffer: &[u8], offset: u64) -> Result<(), StorageFault>
     requires end { offset + length buffer.now ≤ max_file_length }
     requires short { length buffer.now ≤ piece_size }
@@ -85,8 +85,8 @@ fn write_changed<S: Storage>(image: &mut S, buffer: &[u8], offset: u64) -> Resul
     image.write(buffer, offset)
 }
 
-/// Writes the bytes to the image from an offset on, in pieces of 4096 bytes: all of them, or those that the
-/// image doesn't have.
+/// Writes the bytes to the image from an offset on, in pieces of 4096 bytes: all pieces, or only those that
+/// differ from the image.
 pub(crate) fn write_in_pieces<P: Packed, S: Storage>(
     packed: &P,
     image: &mut S,

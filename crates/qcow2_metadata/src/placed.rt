@@ -1,4 +1,4 @@
-//! What tables and refcount blocks share: a place in the image, a flag, and how they are written.
+//! The common part of tables and refcount blocks: a place in the image, a modified flag, and writes.
 
 ghost use Rattle.std.specs.Prelude.{◌≡◌, false, true, IsOk};
 ghost use Rattle.qcow2_metadata.specs.Placed.{FlagAfterWrite, Writes};
@@ -6,8 +6,8 @@ ghost use Rattle.qcow2_metadata.specs.Placed.{FlagAfterWrite, Writes};
 use crate::pieces::{Packed, Pieces, write_in_pieces};
 use qcow2_base::{Fault, HostCluster, Storage};
 
-/// Where a table or a refcount block begins in the image, if it has a place there, and whether it was
-/// changed since it was last read or written.
+/// The first cluster of a table or refcount block in the image, if it has a place, and whether it was changed
+/// since it was last read or written.
 #[derive(Clone, Copy, Debug)]
 pub(crate) struct Placement {
     pub(crate) cluster: Option<HostCluster>,
@@ -15,8 +15,8 @@ pub(crate) struct Placement {
 }
 
 impl Placement {
-    /// Writes the bytes to the image, from the cluster on. Refuses where there is no cluster, then where
-    /// the bytes can't lie there. The flag is clear after `Ok`, set after a storage fault, and else stays.
+    /// Writes the bytes to the image, from the cluster on. Refuses without a cluster (22), then if the bytes
+    /// can't lie there. `Ok` clears the flag, a storage fault sets it, and any other fault leaves it.
     pub(crate) fn write<P: Packed, S: Storage>(
         &mut self,
         packed: &P,
@@ -44,7 +44,7 @@ impl Placement {
         }
     }
 
-    /// Writes the bytes as `write` does, if the flag is set.
+    /// Writes the bytes, as `write` does, if the flag is set.
     pub(crate) fn write_if_modified<P: Packed, S: Storage>(
         &mut self,
         packed: &P,

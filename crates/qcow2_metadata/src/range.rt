@@ -1,4 +1,4 @@
-//! Ranges of an image's bytes: what tables, blocks and headers share.
+//! Ranges of an image's bytes, for tables, blocks and headers.
 
 ghost use Rattle.std.specs.Prelude.{◌≡◌, ◌+◌, ◌*◌, ◌^◌, ◌≤◌, length, None, Some, IsOkUnless, IfOk, OnOk, MatchResult};
 ghost use Rattle.qcow2_base.specs.Format.{max_file_length};
@@ -8,7 +8,7 @@ ghost use Rattle.qcow2_metadata.specs.Range.{range_fault};
 
 use qcow2_base::{Fault, HostCluster, HostOffset, MAX_FILE_LENGTH, Storage};
 
-// Where `len` bytes begin that start with a cluster, or why they can't lie there.
+// Returns the offset of `len` bytes that begin with a cluster, or fault 21 if they end past 2^56.
 pub(crate) fn range_offset(
     cluster: HostCluster,
     cluster_bits: u32,
@@ -22,7 +22,7 @@ pub(crate) fn range_offset(
     ensures offset { IfOk result (λ offset. offset.0 ≡ cluster.0 * 2 ^ cluster_bits) }
     ensures fits { IfOk result (λ offset. offset.0 + len ≤ max_file_length) }
 {
-    // The cluster's offset may not fit 64 bits, so the greatest cluster is computed instead.
+    // The cluster's offset may not fit 64 bits, so compare with the greatest cluster instead.
     let greatest = (MAX_FILE_LENGTH - len) >> cluster_bits;
     if cluster.0 > greatest {
         return Err(Fault::TablePlace);

@@ -1,4 +1,4 @@
-//! Reading ahead: many small reads of neighbouring bytes in few calls of the storage.
+//! Read-ahead: many small reads of adjacent bytes in few calls of the storage.
 
 ghost use Rattle.std.specs.Prelude.{◌≡◌, ◌+◌, ◌-◌, ◌^◌, min, ◌≤◌, ◌<◌, IsOkUnless, IsTrue, OnOk, length, take};
 ghost use Rattle.qcow2_metadata.specs.Pieces.{piece_size};
@@ -9,10 +9,10 @@ use crate::pieces::PIECE_BYTES;
 use crate::range::read_range;
 use qcow2_base::{Fault, HostOffset, Storage, StorageFault};
 
-/// How many bytes are read ahead, at most.
+/// The greatest number of bytes that one call reads ahead.
 const AHEAD: usize = PIECE_BYTES;
 
-/// A storage that reads more than it is asked for, up to an end, and keeps that for the next read.
+/// A storage that reads more than its caller asks for, up to an end, and keeps that for the next reads.
 #[derive(Drop)]
 pub(crate) struct ReadAhead<'a, S: Storage> {
     image: &'a mut S,
@@ -26,7 +26,7 @@ pub(crate) struct ReadAhead<'a, S: Storage> {
 }
 
 impl<'a, S: Storage> ReadAhead<'a, S> {
-    // Nothing is kept yet. What is read ahead ends before `end`.
+    // Returns a reader with no bytes in memory, which reads ahead at most up to `end`.
     pub(crate) fn new(image: &'a mut S, end: u64) -> ReadAhead<'a, S>
         requires { end ≤ 2 ^ 21 }
         ensures image { result.image.now ≡ image.entry.now }
@@ -41,7 +41,7 @@ impl<'a, S: Storage> ReadAhead<'a, S> {
         }
     }
 
-    // Whether `len` bytes from an offset on are kept.
+    // Whether `len` bytes from an offset on are in memory.
     fn keeps(&self, offset: u64, len: usize) -> bool
         ensures { IsTrue result → (self.now.start ≤ offset) × (offset + len ≤ self.now.start + self.now.len) }
     {
@@ -69,7 +69,7 @@ impl<'a, S: Storage> ReadAhead<'a, S> {
         Ok(())
     }
 
-    // Keeps the bytes from an offset on, as many as may be read ahead.
+    // Reads ahead from an offset on, as many bytes as allowed.
     fn fill(&mut self, offset: u64) -> Result<(), StorageFault>
         requires { offset < self.old.end }
         ensures read { ReadsBytes result offset (take self.new.len self.new.bytes)

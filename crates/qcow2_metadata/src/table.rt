@@ -1,5 +1,5 @@
-//! Tables of entries: L1 tables, L2 tables and refcount tables differ in what their entries are and how many
-//! they may be. So loading and writing are in one trait, and are proved once.
+//! Tables of entries. L1 tables, L2 tables and refcount tables differ only in their entries and the number of
+//! these, so one trait loads and writes them all, and is proved once.
 
 ghost use Rattle.std.specs.Prelude.{◌≡◌, ℕ, false, true, ◌+◌, ◌*◌, ◌^◌, ◌<◌, ◌≤◌, IsTrue, length, map, slice_index, slice_get, Option, Some, None, option_map, IfSome, IfOk, OnOk, MatchResult};
 ghost use Rattle.std.specs.Int.{div_ceil};
@@ -38,30 +38,31 @@ use one_entry::{entries_at_once, write_entries};
 use pieces::{TableBytes, read_entries};
 pub use ref_table::RefTable;
 
-/// A table in memory. Its entries are valid under the image's cluster size. It may have a cluster in
-/// the image, where it begins, and it knows whether it was changed since it was last read or written.
+/// A table in memory. Its entries are valid under the image's cluster size. It may have a place in the image,
+/// given by its first cluster, and it knows whether it was changed since it was last read or written.
 pub trait Table: Sized {
-    /// The entry as the table keeps it.
+    /// The type of the entries in memory.
     type InternalEntry: TableEntry + Drop;
-    /// The entry as callers get it.
+    /// The type of the entries for callers.
     type Entry: TableEntry + Copy;
 
-    /// What kind of table it is, for people.
+    /// The name of this kind of table, for people.
     const NAME: &'static str;
 
-    /// How many entries a table of this kind may have.
+    /// The greatest number of entries.
     const MAX_ENTRIES: usize;
 
     ghost MAX_ENTRIES: { ℕ };
 
-    /// What the table says.
+    /// The table's state, as contracts see it.
     ghost state: { Self → TableState };
 
-    /// What sets the kind apart: how many entries there may be, and which numbers are none.
+    /// The properties of this kind: the numbers of entries that it allows, and the numbers that are no valid
+    /// entry.
     ghost kind: { Kind };
 
-    /// A table of these entries, with no cluster, that counts as modified. They must be valid under
-    /// the header's cluster size, and as many as such a table may have, 2^48 at most.
+    /// Returns a table of these entries, without a cluster, which counts as modified. The entries must be
+    /// valid under the header's cluster size, and their number one that the kind allows, 2^48 at most.
     fn from_data(list: Vec<Self::InternalEntry>, header: &Header) -> Self
         requires valid { first_fault (kind.fault_of header.now.v2.cluster_bits)
             (map Self.InternalEntry.plain list.items) ≡ None }
@@ -70,13 +71,13 @@ pub trait Table: Sized {
         ensures { state result ≡ new_placed (map Self.InternalEntry.plain list.items)
             (geometry_of header.now) };
 
-    /// The number of entries.
+    /// Returns the number of entries.
     fn entries(&self) -> usize
         ensures count { result ≡ length (state self.now).numbers }
         ensures valid { let table = state self.now in
             IsValidTable kind table.geometry.cluster_bits table.cluster table.numbers };
 
-    /// The entry at an index, if there is one.
+    /// Returns the entry at an index, or `None` past the end.
     fn get_ref(&self, index: usize) -> Option<&Self::InternalEntry>
         ensures number { option_map (λ entry. Self.InternalEntry.plain entry.now) result
             ≡ slice_get (state self.now).numbers index }
@@ -84,32 +85,32 @@ pub trait Table: Sized {
             kind.fault_of (state self.now).geometry.cluster_bits
             (Self.InternalEntry.plain entry.now) ≡ None) };
 
-    /// The entry at an index; past the end, the entry 0.
+    /// Returns the entry at an index, or the entry 0 past the end.
     fn get(&self, index: usize) -> Self::Entry
         ensures number { Self.Entry.plain result ≡ slice_index (state self.now).numbers index }
         ensures lawful { kind.fault_of (state self.now).geometry.cluster_bits
             (Self.Entry.plain result) ≡ None };
 
-    /// The cluster in the image that the table begins with.
+    /// Returns the table's first cluster in the image, or `None` if it has no place.
     fn get_cluster(&self) -> Option<HostCluster>
         ensures { result ≡ (state self.now).cluster };
 
-    /// The offset in the image that the table begins at.
+    /// Returns the table's offset in the image, or `None` if it has no place.
     fn get_offset(&self) -> Option<HostOffset>
         ensures { option_map (λ (offset : Offset). offset.0) result
             ≡ option_map (offset_of (layout_of_table kind (state self.now))) (state self.now).cluster };
 
-    /// Says where in the image the table begins: at a cluster whose offset fits 64 bits. The table then
-    /// counts as modified.
+    /// Places the table at a cluster of the image, whose offset must fit 64 bits. The table then counts as
+    /// modified.
     fn set_cluster(&mut self, cluster: HostCluster)
         requires { offset_of (layout_of_table kind (state self.old)) cluster < 2 ^ 64 }
         ensures { state self.new ≡ record (state self.old) { cluster = Some cluster; modified = true } };
 
-    /// Takes the table's cluster away. Whether it counts as modified stays.
+    /// Removes the table's cluster. The modified flag stays.
     fn unset_cluster(&mut self)
         ensures { state self.new ≡ record (state self.old) { cluster = None } };
 
-    /// The logarithm of the cluster size in bytes, from 9 to 21.
+    /// Returns the logarithm of the cluster size in bytes, from 9 to 21.
     fn cluster_bits(&self) -> u32
         ensures value { result ≡ (state self.now).geometry.cluster_bits }
         ensures range { IsClusterBits result };
@@ -118,25 +119,25 @@ pub trait Table: Sized {
     fn is_modified(&self) -> bool
         ensures { result ≡ (state self.now).modified };
 
-    /// Says that the table is the same as in the image.
+    /// Marks the table as equal to the image's.
     fn clear_modified(&mut self)
         ensures { state self.new ≡ record (state self.old) { modified = false } };
 
-    /// Says that the table is not the same as in the image.
+    /// Marks the table as different from the image's.
     fn set_modified(&mut self)
         ensures { state self.new ≡ record (state self.old) { modified = true } };
 
-    /// The allocator that the table keeps its entries with.
+    /// Returns the allocator of the table's entries.
     fn allocator(&self) -> Global;
 
-    /// The table's length in the image, in bytes: eight for each entry.
+    /// Returns the table's length in the image, in bytes: eight for each entry.
     final fn byte_size(&self) -> usize
         ensures { result ≡ 8 * length (state self.now).numbers }
     {
         8 * self.entries()
     }
 
-    /// How many clusters the table takes in the image, the last of them perhaps in part.
+    /// Returns the number of clusters that the table takes in the image, rounded up.
     final fn cluster_count(&self) -> ClusterCount
         ensures { let table = state self.now in
             result.0 ≡ div_ceil (8 * length table.numbers) (2 ^ table.geometry.cluster_bits) }
@@ -144,13 +145,12 @@ pub trait Table: Sized {
         ClusterCount::from_byte_size(self.byte_size() as u64, self.cluster_bits())
     }
 
-    /// Reads the table of `entries` entries that begins with a cluster of the image, in pieces of 4096
-    /// bytes. It has that cluster and doesn't count as modified. An L2 table has the header's
-    /// `l2_entries()`.
+    /// Loads the table of `entries` entries that begins with a cluster of the image, in pieces of 4096 bytes.
+    /// It then has that cluster and doesn't count as modified. An L2 table has the header's `l2_entries()`.
     ///
-    /// Refuses more entries than the kind allows (20), then an end past 2^56 (21), then the first entry
-    /// with a reserved bit (18) or an unaligned offset (19), and reads no piece after that entry's. Changes
-    /// no byte, whatever it returns.
+    /// Refuses more entries than the kind allows (20), then an end past 2^56 (21), then the first entry with
+    /// a reserved bit (18) or an unaligned offset (19), and reads nothing after the piece of that entry.
+    /// Never changes a byte.
     final fn load<S: Storage>(
         alloc: Global,
         image: &mut S,
@@ -177,11 +177,11 @@ pub trait Table: Sized {
 
     /// Writes the table to the image, from its cluster on, in pieces of 4096 bytes.
     ///
-    /// Refuses a table with no cluster, then more entries than the kind allows, then an end past 2^56.
-    /// After `Ok` the table doesn't count as modified. After a storage fault it does, and some pieces
-    /// are written, then any bytes may be in one, and those after it are as before. After any other
-    /// refusal nothing has changed. Entries and cluster stay whatever it returns, and no byte outside
-    /// the table's place changes.
+    /// Refuses a table without a cluster (22), then more entries than the kind allows (20), then an end past
+    /// 2^56 (21). After `Ok` the table doesn't count as modified. After a storage fault (34) it does, some
+    /// pieces are written, the next one may have any bytes, and those after it are unchanged. Any other
+    /// refusal changes nothing. Entries and cluster always stay, and no byte outside the table's place
+    /// changes.
     final fn write<S: Storage>(&mut self, image: &mut S) -> Result<(), Fault>
         ensures written { let table = state self.old in
             Writes (layout_of_table kind table) table.numbers table.cluster result
@@ -201,15 +201,14 @@ pub trait Table: Sized {
         written
     }
 
-    /// Writes one entry of the table to the image, by one call of the storage. Writes the aligned bytes that
-    /// hold it, counted from the table's begin, with the table's entries and with zeros past its end. They
-    /// are as long as the greater of the storage's alignments, and eight bytes at least. Where that is more
-    /// than a cluster they are eight bytes. So whatever the alignments are, which callers may not know, no
-    /// byte of another cluster than the entry's changes. Takes memory for more than 4096 bytes. The index is
-    /// in bounds.
+    /// Writes one entry of the table to the image, by one call of the storage. Writes the aligned bytes
+    /// around it, counted from the table's begin, with the table's entries and with zeros past its end. Their
+    /// number is the greater of the storage's alignments, but at least 8, or 8 if that is more than a
+    /// cluster. So no byte of another cluster than the entry's changes, whatever the alignments are.
+    /// Allocates a buffer if it writes more than 4096 bytes. The index must be in bounds.
     ///
-    /// Refuses what `write` refuses, then fails where memory runs out; nothing has changed then. The table
-    /// stays as it is, and counts as modified as before, whatever it returns.
+    /// Refuses what `write` refuses, then returns `NoMemory` (35) if memory runs out; neither changes
+    /// anything. The table and its modified flag always stay.
     final fn write_entry<S: Storage>(&mut self, image: &mut S, index: usize) -> Result<(), Fault>
         requires { index < length (state self.old).numbers }
         ensures written { let table = state self.old in
@@ -235,7 +234,7 @@ pub trait Table: Sized {
     ghost faults_are: { kind.fault_of ≡ Self.InternalEntry.fault_of };
 }
 
-// Where a table of this number of entries begins, or why it can't be there.
+// Returns the offset of a table with this number of entries, or the fault why it can't be there.
 fn table_offset(
     cluster: HostCluster,
     cluster_bits: u32,

@@ -1,4 +1,4 @@
-//! The backing file's name: how it is read where a header says, and how it is written.
+//! Reads and writes the backing file's name.
 
 ghost use Rattle.std.specs.Prelude.{unwrap_or, [], ◌≡◌, ◌++◌, IfOk, OnOk, length, option_map, string_bytes, true};
 ghost use Rattle.qcow2_base.specs.Types.{IsClusterBits};
@@ -13,7 +13,7 @@ use crate::read_ahead::ReadAhead;
 use qcow2_base::{Fault, MAX_BACKING_FILENAME, Storage, V2Header};
 use std::alloc::{AllocError, Global};
 
-// The backing file's name, where the header says where it is.
+// Returns the backing file's name, or `None` if the header gives no offset for it.
 pub(super) fn read_backing_filename<S: Storage>(
     alloc: Global,
     image: &mut ReadAhead<S>,

@@ -1,4 +1,4 @@
-//! Persistent bitmaps: how many a header says that there are. Where they lie isn't read.
+//! The number of persistent bitmaps by the header. The bitmaps themselves aren't read.
 
 ghost use Rattle.std.specs.Prelude.{◌≡◌, map};
 ghost use Rattle.qcow2_metadata.specs.Header.BitmapCount.{bitmap_count_in, first_bitmap_count};
@@ -7,10 +7,10 @@ ghost use Rattle.qcow2_metadata.specs.Header.Extensions.{extension_of};
 use super::extensions::HeaderExtension;
 use qcow2_base::read_be;
 
-// The type of the extension that says how many bitmaps there are, and where they lie.
+// The type of the extension with the number of bitmaps and the place of their directory.
 pub(super) const BITMAPS: u32 = 0x23852875;
 
-/// The number of bitmaps that the first extension says which says one.
+/// Returns the number of bitmaps from the first extension that has one.
 #[tactic(auto, using(crate::proofs::BitmapCountLemmas::said))]
 pub(super) fn first_bitmap_count(extensions: &[HeaderExtension]) -> Option<u32>
     ensures { result ≡ first_bitmap_count (map extension_of extensions.now) }
@@ -23,7 +23,8 @@ pub(super) fn first_bitmap_count(extensions: &[HeaderExtension]) -> Option<u32>
     None
 }
 
-// The number of bitmaps that an extension says, if it is of their type and has a number.
+// Returns the number of bitmaps in an extension, if it has the bitmaps type and at least the 4 bytes of a
+// number.
 fn bitmap_count(extension: &HeaderExtension) -> Option<u32>
     ensures { result ≡ bitmap_count_in (extension_of extension.now) }
 {

@@ -1,4 +1,4 @@
-//! Bytes of a header: how they are read from an image, also as text, and appended to a text.
+//! Bytes of a header: reads them from an image, also as text, and appends them to a text.
 
 ghost use Rattle.std.specs.Prelude.{◌≡◌, ◌+◌, ◌^◌, ◌≤◌, ◌++◌, IfOk, Ok, OnOk, length, replicate, string_bytes};
 ghost use Rattle.qcow2_base.specs.Storage.{IsBytes, image_of};
@@ -12,7 +12,7 @@ use crate::read_ahead::ReadAhead;
 use qcow2_base::{Fault, HostOffset, Storage};
 use std::alloc::{AllocError, Global};
 
-// `len` bytes of the image, from an offset on. Takes memory for them, so it asks that they end within the
+// Returns `len` bytes of the image from an offset on. Allocates memory for them, so they must end within the
 // largest cluster.
 #[tactic(auto, using(crate::proofs::LoadLemmas::bytes_read))]
 pub(super) fn read_bytes<S: Storage>(
@@ -34,7 +34,7 @@ pub(super) fn read_bytes<S: Storage>(
     Ok(bytes)
 }
 
-// The text that the bytes are, or the fault where they are none.
+// Returns the bytes as text, or the fault if they aren't UTF-8.
 #[tactic(auto, using(crate::proofs::ExtensionsLemmas::texts))]
 pub(super) fn parse_text(bytes: Vec<u8>, fault: Fault) -> Result<String, Fault>
     ensures { result_map string_bytes result ≡ text fault bytes.items }
@@ -59,7 +59,7 @@ pub(super) fn push_zeros(text: &mut Vec<u8>, count: usize) -> Result<(), AllocEr
     text.resize(text.len() + count, 0)
 }
 
-// Appends bytes to the text, and zeros up to a multiple of 8 of them.
+// Appends bytes to the text, padded with zeros to a multiple of 8.
 #[tactic(auto, using(crate::proofs::LayoutLemmas::padded_pieces))]
 pub(super) fn push_padded(text: &mut Vec<u8>, bytes: &[u8]) -> Result<(), AllocError>
     ensures { OnOk result (text.new.items ≡ text.old.items ++ padded_bytes bytes.now) }

@@ -1,4 +1,4 @@
-//! Header extensions, which come after the fields of a version 3 header: how they are read and written.
+//! Reads and writes header extensions, which follow the fields of a version 3 header.
 
 ghost use Rattle.std.specs.Prelude.{◌≡◌, ◌≢◌, ◌⊎◌, ◌+◌, ◌^◌, ◌<◌, ◌≤◌, ◌++◌, nat_le, [], ◌∷◌, All, IfErr, IfOk, IfSome, IsOkUnless, Ok, OnOk, SomeIff, length, map, option_map, string_bytes};
 ghost use Rattle.qcow2_base.specs.OnDiskStruct.{header_extension_header};
@@ -27,14 +27,14 @@ use qcow2_base::{
 use std::alloc::{AllocError, Global};
 use std::collections::BTreeMap;
 
-/// What the data of a header extension is, by the number before it.
+/// The type of a header extension, by the number before its data.
 #[derive(Clone, Copy, Debug, PartialEq, Eq)]
 pub enum HeaderExtensionType {
     /// The end of the extensions.
     End = 0,
     /// The format of the backing file.
     BackingFileFormat = 0xe2792aca,
-    /// What features are called.
+    /// The names of features.
     FeatureNameTable = 0x6803f857,
     /// The name of the external data file.
     ExternalDataFileName = 0x44415441,
@@ -70,11 +70,11 @@ impl From<HeaderExtensionType> for u32 {
 pub enum HeaderExtension {
     /// The format of the backing file.
     BackingFileFormat(String),
-    /// What features are called, by the field that their bit belongs to, and the bit.
+    /// The names of features, by the field of their bit, and the bit.
     FeatureNameTable(BTreeMap<(FeatureType, u8), String>),
     /// The name of the external data file.
     ExternalDataFileName(String),
-    /// An extension of a type that isn't known here, as it is in the image.
+    /// An extension of an unknown type, as it is in the image.
     Unknown {
         /// Its type.
         extension_type: u32,
@@ -84,7 +84,7 @@ pub enum HeaderExtension {
 }
 
 impl HeaderExtension {
-    // The name that it says, if it is of this type.
+    // Returns the name in the extension, if it is of this type.
     pub(super) fn name(&self, extension_type: HeaderExtensionType) -> Option<&String>
         ensures { option_map (λ name. string_bytes name.now) result
             ≡ name_in extension_type (extension_of self.now) }
@@ -100,7 +100,7 @@ impl HeaderExtension {
         }
     }
 
-    // Whether it is of the type with this number, which isn't known here.
+    // Whether it is of the unknown type with this number.
     fn is_unknown(&self, number: u32) -> bool
         ensures { result ≡ is_unknown number (extension_of self.now) }
     {
@@ -124,7 +124,7 @@ impl HeaderExtension {
     }
 }
 
-/// Whether an extension is of the type with this number, which isn't known here.
+/// Whether there is an extension of the unknown type with this number.
 pub(super) fn has_unknown(extensions: &[HeaderExtension], number: u32) -> bool
     ensures { result ≡ list_any (is_unknown number) (map extension_of extensions.now) }
 {
@@ -136,7 +136,7 @@ pub(super) fn has_unknown(extensions: &[HeaderExtension], number: u32) -> bool
     false
 }
 
-// The extensions, of which version 2 has none.
+// Returns the extensions; version 2 has none.
 pub(super) fn read_header_extensions<S: Storage>(
     alloc: Global,
     image: &mut ReadAhead<S>,
@@ -155,7 +155,7 @@ pub(super) fn read_header_extensions<S: Storage>(
     read_extensions(alloc, image, cluster_size(v2), base.header_length as u64)
 }
 
-// The extensions from a place on, up to End, which all end within `len` bytes.
+// Returns the extensions from a place on, up to End. All must end within `len` bytes.
 fn read_extensions<S: Storage>(
     alloc: Global,
     image: &mut ReadAhead<S>,
@@ -176,8 +176,8 @@ fn read_extensions<S: Storage>(
     Ok(extensions)
 }
 
-// The extension at a place, which ends within `len` bytes, and where the next one is; nothing where
-// it is End.
+// Returns the extension at a place, which must end within `len` bytes, and the place of the next one, or
+// `None` for End.
 fn read_extension<S: Storage>(
     alloc: Global,
     image: &mut ReadAhead<S>,
@@ -200,7 +200,7 @@ fn read_extension<S: Storage>(
     Ok(Some((extension, next)))
 }
 
-// The type and the length of the extension at a place. It ends within `len` bytes.
+// Returns the type and length of the extension at a place, which must end within `len` bytes.
 fn read_extension_header<S: Storage>(
     image: &mut ReadAhead<S>,
     len: u64,
@@ -225,7 +225,7 @@ fn read_extension_header<S: Storage>(
     Ok(header)
 }
 
-// The extension that isn't End whose data begins at a place.
+// Returns the extension whose data begins at a place. It must not be End.
 fn read_data<S: Storage>(
     alloc: Global,
     image: &mut ReadAhead<S>,
@@ -248,7 +248,7 @@ fn read_data<S: Storage>(
     parse(header.extension_type, bytes)
 }
 
-// The extension of a type that is neither End nor a feature name table, with these bytes of data.
+// Returns the extension with these bytes of data. Its type must be neither End nor the feature name table.
 #[tactic(auto, using(crate::proofs::ExtensionsLemmas::string_is_text))]
 fn parse(extension_type: u32, bytes: Vec<u8>) -> Result<HeaderExtension, Fault>
     requires end { extension_type ≢ extension_number kind.End }
@@ -272,14 +272,14 @@ fn parse(extension_type: u32, bytes: Vec<u8>) -> Result<HeaderExtension, Fault>
 }
 
 impl HeaderExtension {
-    // Whether it is other than a table of feature names.
+    // Whether it isn't a feature name table.
     pub(super) fn is_other(&self) -> bool
         ensures { result ≡ is_other (extension_of self.now) }
     {
         !matches!(self, HeaderExtension::FeatureNameTable(_))
     }
 
-    // The number of its type.
+    // Returns the number of its type.
     fn number(&self) -> u32
         ensures { result ≡ type_number (extension_of self.now) }
     {
@@ -305,7 +305,7 @@ impl HeaderExtension {
         }
     }
 
-    // How many bytes it takes in an image.
+    // Returns the number of bytes that it takes in an image.
     fn text_len(&self) -> Option<usize>
         ensures { SomeIff result (length (extension_text (extension_of self.now)) < 2 ^ 64)
             (length (extension_text (extension_of self.now))) }
@@ -313,7 +313,7 @@ impl HeaderExtension {
         self.data_len()?.checked_next_multiple_of(8)?.checked_add(8)
     }
 
-    // How many bytes are written of it, in a header with feature names or without.
+    // Returns the number of bytes that it takes in a header with feature name tables or without.
     fn written_len(&self, with_names: bool) -> Option<usize>
         ensures { SomeIff result (length (written_text with_names (extension_of self.now)) < 2 ^ 64)
             (length (written_text with_names (extension_of self.now))) }
@@ -326,7 +326,7 @@ impl HeaderExtension {
     }
 }
 
-// How many bytes the extensions take in an image, those with feature names or without, and End.
+// Returns the number of bytes of all extensions in an image, with feature name tables or without, and of End.
 #[tactic(auto, using(crate::proofs::LayoutLemmas::lens))]
 pub(super) fn extensions_len(extensions: &[HeaderExtension], with_names: bool) -> Option<usize>
     ensures { SomeIff result
@@ -340,7 +340,7 @@ pub(super) fn extensions_len(extensions: &[HeaderExtension], with_names: bool) -
     Some(len)
 }
 
-// Appends the extensions to the text, those with feature names or without, and End.
+// Appends the extensions to the text, with feature name tables or without, and End.
 pub(super) fn push_extensions(
     text: &mut Vec<u8>,
     extensions: &[HeaderExtension],
@@ -357,7 +357,7 @@ pub(super) fn push_extensions(
     push_zeros(text, 8)
 }
 
-// Appends an extension to the text of a header with feature names or without.
+// Appends an extension to the text of a header with feature name tables or without.
 fn push_written(
     text: &mut Vec<u8>,
     extension: &HeaderExtension,
@@ -393,7 +393,7 @@ fn push_extension(text: &mut Vec<u8>, extension: &HeaderExtension) -> Result<(),
     }
 }
 
-// Appends what comes before an extension's data to the text.
+// Appends the type and length before an extension's data to the text.
 fn push_extension_header(
     text: &mut Vec<u8>,
     header: &HeaderExtensionHeader,

@@ -1,4 +1,4 @@
-//! Tables of feature names, which are header extensions: that of new images, and how one is read and written.
+//! Feature name tables, a kind of header extension: reads and writes them, and has that of new images.
 
 ghost use Rattle.std.specs.Prelude.{◌≡◌, ◌⊎◌, ◌+◌, ◌^◌, ◌≤◌, ◌++◌, IfErr, IfOk, OnOk, length, string_bytes};
 ghost use Rattle.std.specs.BTreeMap.{IsOrdered, insert_entry};
@@ -20,13 +20,13 @@ use qcow2_base::{Fault, HostOffset, Storage};
 use std::alloc::{AllocError, Global};
 use std::collections::BTreeMap;
 
-/// How many bytes each name takes in a feature name table, with its type and its bit.
+/// The size of an entry of a feature name table in bytes: a type, a bit and a name.
 pub(super) const FEATURE_NAME_BYTES: usize = 48;
 
-/// How many bytes of a feature's name a table has room for.
+/// The greatest length of a feature's name in a table, in bytes.
 const FEATURE_NAME_LEN: usize = FEATURE_NAME_BYTES - 2;
 
-// What features are called in new images.
+// Returns the names of features in new images.
 pub(super) fn known_names(alloc: Global) -> Result<BTreeMap<(FeatureType, u8), String>, AllocError>
     ensures { IfOk result (λ names. names_of names ≡ known_names) }
 {
@@ -66,7 +66,7 @@ fn set_name(
     Ok(())
 }
 
-// The names of a feature name table that begins at a place and has `len` bytes.
+// Returns the names of a feature name table of `len` bytes at a place.
 pub(super) fn read_feature_names<S: Storage>(
     alloc: Global,
     image: &mut ReadAhead<S>,
@@ -89,7 +89,7 @@ pub(super) fn read_feature_names<S: Storage>(
     Ok(names)
 }
 
-// Puts the name of a chunk of a feature name table into the names.
+// Adds the name in one entry of a feature name table.
 fn add_feature_name(
     alloc: Global,
     names: &mut BTreeMap<(FeatureType, u8), String>,
@@ -115,7 +115,7 @@ fn add_feature_name(
     Ok(())
 }
 
-// The name before the first zero byte, with U+FFFD for what is no text.
+// Returns the name up to the first zero byte, with U+FFFD for bytes that aren't UTF-8.
 #[tactic(auto, using(crate::proofs::FeatureNamesLemmas::names_read))]
 fn name_of(alloc: Global, bytes: &[u8]) -> Result<String, AllocError>
     requires { length bytes.now ≤ 46 }
@@ -128,7 +128,7 @@ fn name_of(alloc: Global, bytes: &[u8]) -> Result<String, AllocError>
     Ok(name)
 }
 
-// Appends the data of a table of feature names to the text.
+// Appends the data of a feature name table to the text.
 pub(super) fn push_names(
     text: &mut Vec<u8>,
     names: &BTreeMap<(FeatureType, u8), String>,

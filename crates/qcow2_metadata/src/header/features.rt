@@ -1,4 +1,4 @@
-//! Features: optional properties of an image. Each has a bit in one of three fields of the header.
+//! Features: optional properties of an image, each with a bit in one of three header fields.
 
 ghost use Rattle.std.specs.Prelude.{◌≡◌, ◌^◌};
 ghost use Rattle.qcow2_metadata.specs.declared.header.features.FeatureType.TheVariants.{Autoclear, Compatible, Incompatible};
@@ -6,19 +6,19 @@ ghost use Rattle.qcow2_metadata.specs.Header.Features.{HasNumber, autoclear_bit,
 
 use thiserror::Error;
 
-/// A number that no value of the type has.
+/// The error for a number without a value of the type.
 #[derive(Clone, Copy, Debug, PartialEq, Eq, Error)]
 #[error("the number stands for no value of this type")]
 pub struct UnknownValue;
 
-/// The field of the header that a feature's bit belongs to, by its number in feature name tables.
+/// The header field of a feature's bit, by its number in feature name tables.
 #[derive(Clone, Copy, Debug, PartialEq, Eq, PartialOrd, Ord)]
 pub enum FeatureType {
-    /// An image with such a feature can only be opened by who knows it.
+    /// A program must know the feature to open the image.
     Incompatible = 0,
-    /// Such a feature may be left aside.
+    /// A program may ignore the feature.
     Compatible = 1,
-    /// Who doesn't know such a feature clears its bit before writing to the image.
+    /// A program that doesn't know the feature must clear its bit before it writes to the image.
     Autoclear = 2,
 }
 
@@ -56,7 +56,7 @@ pub enum IncompatibleFeatures {
     Corrupt = 2,
     /// Guest data lies in another file.
     ExternalDataFile = 4,
-    /// Compressed clusters aren't compressed in the default way.
+    /// Compressed clusters have another compression than the default.
     CompressionType = 8,
     /// Entries of L2 tables have 16 bytes.
     ExtendedL2Entries = 16,
@@ -149,7 +149,7 @@ impl From<CompatibleFeatures> for (FeatureType, u8) {
 /// Autoclear features. The number of each is its bit as a mask, `2^bit`.
 #[derive(Clone, Copy, Debug, PartialEq, Eq)]
 pub enum AutoclearFeatures {
-    /// The image's bitmaps are consistent.
+    /// The persistent bitmaps agree with the disk.
     Bitmaps = 1,
     /// The external data file is a raw image of the guest's disk.
     RawExternalData = 2,

@@ -1,4 +1,4 @@
-//! The fixed parts of a header: how they are read and tested, and how they are written.
+//! Reads, checks and writes the fixed parts of a header.
 
 ghost use Rattle.std.specs.Prelude.{unwrap_or, [], ◌≡◌, ◌⊎◌, ◌%◌, ◌^◌, ◌<◌, ◌≤◌, ◌++◌, IfErr, IfOk, Ok, OnOk, length};
 ghost use Rattle.qcow2_base.specs.OnDiskStruct.{v2_header, v3_header_base};
@@ -17,10 +17,10 @@ use qcow2_base::{
 };
 use std::alloc::AllocError;
 
-/// How many bytes the two fixed parts have.
+/// The length of the two fixed parts in bytes.
 pub(super) const FIXED_BYTES: usize = V2Header::ON_DISK_SIZE + V3HeaderBase::ON_DISK_SIZE;
 
-// The two fixed parts, which are valid. What comes after the first is not looked at in version 2.
+// Returns the two fixed parts, once checked. In version 2 ignores the bytes after the first part.
 pub(super) fn read_fixed_parts<S: Storage>(image: &mut S) -> Result<(V2Header, V3HeaderBase), Fault>
     ensures reads { Reads (λ parts. (parts.0, parts.1)) result fixed_parts IsHeaderFault
         (S.state image.old) (S.state image.new) }
@@ -35,7 +35,7 @@ pub(super) fn read_fixed_parts<S: Storage>(image: &mut S) -> Result<(V2Header, V
     Ok((v2, base))
 }
 
-// The second part of a header of this version, of which these are the first bytes.
+// Returns the second part of a header of this version, from its first 104 bytes.
 fn read_base(bytes: &[u8], version: u32) -> V3HeaderBase
     requires { length bytes.now ≡ 104 }
     ensures { IsBase (image_of bytes.now) version result }
@@ -47,7 +47,7 @@ fn read_base(bytes: &[u8], version: u32) -> V3HeaderBase
     }
 }
 
-// Refuses an image that isn't qcow2, and cluster sizes that no image has.
+// Refuses an image that isn't qcow2, an unknown version, and a cluster size that the format doesn't allow.
 fn check_version(v2: &V2Header) -> Result<(), Fault>
     ensures exact { result ≡ after_conditions (version_conditions v2.now) (λ _. Ok tt) }
     ensures faults { IfErr result IsHeaderFault }
@@ -67,8 +67,8 @@ fn check_version(v2: &V2Header) -> Result<(), Fault>
     Ok(())
 }
 
-// Refuses a header that is too short or longer than a cluster, tables that don't begin with a cluster,
-// and refcounts of more than 64 bits.
+// Refuses a header that is shorter than 104 bytes or longer than a cluster, tables that don't begin with a
+// cluster, and refcounts of more than 64 bits.
 fn check_fields(v2: &V2Header, base: &V3HeaderBase) -> Result<(), Fault>
     requires { IsClusterBits v2.now.cluster_bits }
     ensures exact { result ≡ after_conditions (field_conditions v2.now base.now) (λ _. Ok tt) }
@@ -108,7 +108,7 @@ pub(super) fn cluster_size(v2: &V2Header) -> u64
 }
 
 impl Header {
-    // The first part of a header whose name lies at a place.
+    // Returns the first part of the header, if the backing file's name is at a place.
     pub(super) fn placed_v2(&self, name_place: usize) -> V2Header
         requires { length (unwrap_or self.now.backing_filename []) < 2 ^ 32 }
         ensures { result ≡ v2_with_name self.now.v2 name_place self.now.backing_filename }
@@ -127,7 +127,7 @@ impl Header {
         }
     }
 
-    // The second part of a header whose extensions begin at a place.
+    // Returns the second part of the header, if the extensions begin at a place.
     pub(super) fn placed_base(&self, header_end: usize) -> V3HeaderBase
         requires { header_end < 2 ^ 32 }
         ensures { result ≡ base_with_length self.now.v2.version self.now.base header_end }

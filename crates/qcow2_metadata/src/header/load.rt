@@ -1,4 +1,4 @@
-//! Loading a header: the first cluster of an image, looked at where the header says, in its order.
+//! Loads a header from the first cluster of an image.
 
 ghost use Rattle.std.specs.Prelude.{◌≡◌, IfOk, true};
 ghost use Rattle.qcow2_metadata.specs.Results.{Reads};
@@ -18,18 +18,19 @@ use qcow2_base::{Fault, Storage, V2Header, V3HeaderBase};
 use std::alloc::Global;
 
 impl Header {
-    /// Loads the header of an image. The result depends on the first cluster alone, and of an image of
-    /// version 2 on its first 72 bytes and the backing file's name.
+    /// Loads the header of an image. The result depends on the first cluster alone, and in version 2 on its
+    /// first 72 bytes and the backing file's name.
     ///
-    /// Returns the fault of the first condition of the format that the image fails: 1 to 17 in the order of
-    /// their numbers. The extensions are tested one after another (12 to 14). Changes no byte then.
-    /// Takes memory for bytes of the image only once it knows that they end within the largest cluster.
+    /// Returns the fault of the first condition of the format that the image violates: 1 to 17 in the order
+    /// of their numbers, except that 12 to 14 are tested extension by extension. Such a fault changes no
+    /// byte. Allocates memory for bytes of the image only once it knows that they end within the largest
+    /// cluster.
     ///
-    /// Who means to write to the image says so by `writable`, and must know each autoclear feature that the
-    /// header names. None is known here: where there is one, the header is written without any. A header that
-    /// has no room in the first cluster then is refused by fault 24, and no byte has changed. The header that
-    /// is returned is the one that was written, perhaps without names of features. After a failed write (34)
-    /// any bytes may be where its text goes, and none past it has changed.
+    /// Pass `writable` to write to the image later. A program that writes must know each autoclear feature of
+    /// the header, and this one knows none, so the call writes the header without any if it has some, and
+    /// returns it as written, perhaps without feature names. If that header doesn't fit the first cluster,
+    /// the call refuses it (fault 24) and changes no byte. A failed write (34) may leave any bytes in the
+    /// range of the header's text, and changes none past it.
     pub fn load<S: Storage>(alloc: Global, image: &mut S, writable: bool) -> Result<Header, Fault>
         ensures { Loads writable result (S.state image.old) (S.state image.new) }
     {
@@ -52,7 +53,7 @@ fn read_header<S: Storage>(alloc: Global, image: &mut S) -> Result<Header, Fault
     read_other_parts(alloc, &mut ahead, v2, base)
 }
 
-// The header of an image whose two fixed parts are these.
+// Returns the header of an image with these two fixed parts.
 fn read_other_parts<S: Storage>(
     alloc: Global,
     image: &mut ReadAhead<S>,

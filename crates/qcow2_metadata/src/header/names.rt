@@ -1,4 +1,4 @@
-//! Names that several extensions of a header say: the first of them, and whether all are the same.
+//! Names that several header extensions may give: the first, and whether all are the same.
 
 ghost use Rattle.std.specs.Prelude.{◌≡◌, IfErr, Ok, map, option_map, string_bytes};
 ghost use Rattle.qcow2_metadata.specs.Results.{after_conditions};
@@ -9,7 +9,7 @@ ghost use Rattle.qcow2_metadata.specs.Header.Grammar.{IsHeaderFault, last_condit
 use super::extensions::{HeaderExtension, HeaderExtensionType};
 use qcow2_base::{EXTERNAL_DATA_FILE_BIT, Fault, V3HeaderBase};
 
-// The first name that an extension of this type says.
+// Returns the name in the first extension of this type.
 #[tactic(auto, using(crate::proofs::HeaderLemmas::first_by_at, crate::proofs::HeaderLemmas::no_name_more))]
 pub(super) fn first_name(
     extensions: &[HeaderExtension],
@@ -26,7 +26,7 @@ pub(super) fn first_name(
     None
 }
 
-// Whether all extensions of this type say the same name.
+// Whether all extensions of this type have the same name.
 fn same_names(extensions: &[HeaderExtension], extension_type: HeaderExtensionType) -> bool
     ensures { result ≡ all_same (names_by (name_in extension_type) (map extension_of extensions.now)) }
 {
@@ -41,7 +41,7 @@ fn same_names(extensions: &[HeaderExtension], extension_type: HeaderExtensionTyp
     true
 }
 
-// Refuses texts of one kind that differ, and features that aren't known here.
+// Refuses different names in extensions of one type, and unknown incompatible features.
 pub(super) fn check_extensions(
     base: &V3HeaderBase,
     extensions: &[HeaderExtension],

@@ -1,5 +1,5 @@
-//! The fields of a header that change while an image is used: the size of the guest's disk, where its
-//! L1 table and its refcount table lie, and its autoclear features. Each can be written by itself.
+//! The header fields that change while an image is used: the size of the guest's disk, the places of its L1
+//! table and refcount table, and its autoclear features. Each can be written by itself.
 
 ghost use Rattle.std.specs.Prelude.{◌≡◌, ◌*◌, ◌^◌, ◌≤◌, length, Ok, Err, IfSome, MatchOption, MatchResult, OnErr, OnOk};
 ghost use Rattle.qcow2_base.specs.OnDiskStruct.{v2_header};
@@ -12,7 +12,7 @@ use crate::{L1Table, PendingClusters, RefTable, Refused, Table};
 use qcow2_base::{Fault, OnDiskStruct, Storage, V2Header, write_be};
 
 impl Header {
-    /// Sets the size of the guest's disk, in bytes. The image isn't changed: `write_size` does that.
+    /// Sets the size of the guest's disk, in bytes. Doesn't change the image: `write_size` does.
     #[inline]
     pub fn set_size(&mut self, size: u64)
         ensures { self.new ≡ record self.old { v2 = record self.old.v2 { size = size } } }
@@ -20,12 +20,11 @@ impl Header {
         self.v2.size = size;
     }
 
-    /// Refers to an L1 table from now on: takes over its offset and its number of entries, and spends the
-    /// pending value for its clusters, if there is one. The image isn't changed: `write_l1_table_pointer`
-    /// does that.
+    /// Makes the header refer to an L1 table: sets its offset and number of entries, and spends the pending
+    /// clusters of the table, if there are any. Doesn't change the image: `write_l1_table_pointer` does.
     ///
-    /// A table with no cluster is refused by fault 23, else one of 2^32 entries or more by 29: the pending
-    /// value comes back, and nothing has changed.
+    /// Refuses a table without a cluster (fault 23), then one of 2^32 entries or more (29). A refusal hands
+    /// the pending clusters back and changes nothing.
     #[tactic(auto, using(crate::proofs::PointersLemmas::table_offset_aligned))]
     pub fn set_l1_table(
         &mut self,
@@ -62,11 +61,11 @@ impl Header {
         Ok(())
     }
 
-    /// Refers to a refcount table from now on: takes over its offset and its number of clusters. The image
-    /// isn't changed: `write_reftable_pointer` does that.
+    /// Makes the header refer to a refcount table: sets its offset and number of clusters. Doesn't change the
+    /// image: `write_reftable_pointer` does.
     ///
-    /// A table with no cluster is refused by fault 23, else one of 2^32 clusters or more by 29: nothing has
-    /// changed then.
+    /// Refuses a table without a cluster (fault 23), then one of 2^32 clusters or more (29). A refusal
+    /// changes nothing.
     #[tactic(auto, using(crate::proofs::PointersLemmas::table_offset_aligned))]
     pub fn set_reftable(&mut self, reftable: &RefTable) -> Result<(), Fault>
         requires cluster_bits { reftable.now.geometry.cluster_bits ≡ self.old.v2.cluster_bits }
@@ -92,8 +91,9 @@ impl Header {
         Ok(())
     }
 
-    /// Writes the size of the guest's disk to the image: the 8 bytes at 24, in one call of the storage. Takes
-    /// no memory. Returns fault 34 alone, and then any bytes may be in that range; no other byte changes.
+    /// Writes the size of the guest's disk to the image: the 8 bytes at 24, in one call of the storage.
+    /// Allocates nothing. The only fault is 34, which may leave any bytes in that range; no other byte
+    /// changes.
     pub fn write_size<S: Storage>(&self, image: &mut S) -> Result<(), Fault>
         ensures { WritesPart result (v2_header self.now.v2) 24 32 (S.state image.old) (S.state image.new) }
     {
@@ -101,8 +101,8 @@ impl Header {
     }
 
     /// Writes the L1 table's number of entries and its offset to the image: the 12 bytes at 36, in one call
-    /// of the storage. Takes no memory. Returns fault 34 alone, and then any bytes may be in that range;
-    /// no other byte changes.
+    /// of the storage. Allocates nothing. The only fault is 34, which may leave any bytes in that range; no
+    /// other byte changes.
     pub fn write_l1_table_pointer<S: Storage>(&self, image: &mut S) -> Result<(), Fault>
         ensures { WritesPart result (v2_header self.now.v2) 36 48 (S.state image.old) (S.state image.new) }
     {
@@ -110,21 +110,21 @@ impl Header {
     }
 
     /// Writes the refcount table's offset and its number of clusters to the image: the 12 bytes at 48, in one
-    /// call of the storage. Takes no memory. Returns fault 34 alone, and then any bytes may be in that
-    /// range; no other byte changes.
+    /// call of the storage. Allocates nothing. The only fault is 34, which may leave any bytes in that range;
+    /// no other byte changes.
     pub fn write_reftable_pointer<S: Storage>(&self, image: &mut S) -> Result<(), Fault>
         ensures { WritesPart result (v2_header self.now.v2) 48 60 (S.state image.old) (S.state image.new) }
     {
         write_part(&self.v2, image, 48, 60)
     }
 
-    /// Clears all autoclear features, in the header and in the image. Who means to write to an image must
-    /// know each that its header names, and none is known here. Writes the 8 bytes at 88, in one call of the
-    /// storage, so that no other field can be torn. `into_writable` writes the header whole.
+    /// Clears all autoclear features, in the header and in the image, as a program must that writes to the
+    /// image and doesn't know them. Writes the 8 bytes at 88, in one call of the storage, so that no other
+    /// field can be torn. `into_writable` writes the whole header instead.
     ///
-    /// A header without any stays as it is, and the storage isn't called. Takes no memory. Returns fault 34
-    /// alone, and then the header is as before and any bytes may be in that range; no other byte changes.
-    /// A backing file's name that has some of these bytes, which the grammar allows, is another then.
+    /// A header without autoclear features stays, and the storage isn't called. Allocates nothing. The only
+    /// fault is 34, which leaves the header unchanged and may leave any bytes in that range; no other byte
+    /// changes. The format allows the backing file's name to overlap these bytes; it then changes too.
     pub fn clear_autoclear<S: Storage>(&mut self, image: &mut S) -> Result<(), Fault>
         ensures header { MatchResult result (λ _. self.new ≡ without_autoclear self.old)
             (λ _. self.new ≡ self.old) }
@@ -141,7 +141,7 @@ impl Header {
     }
 }
 
-// Writes a header's first part between two places.
+// Writes the bytes from `first` to before `end` of a header's first part.
 fn write_part<S: Storage>(
     v2: &V2Header,
     image: &mut S,

@@ -1,4 +1,4 @@
-//! The text of a header: the bytes that a write places at the start of an image.
+//! The text of a header: the bytes that a write stores at the start of an image.
 
 ghost use Rattle.std.specs.Prelude.{◌≡◌, ◌^◌, ◌<◌, ◌≤◌, ◌++◌, IfOk, IfSome, MatchOption, OnOk, SomeIff, false, replicate};
 ghost use Rattle.qcow2_base.specs.OnDiskStruct.{v2_header, v3_header_base};
@@ -12,22 +12,22 @@ use super::fixed_parts::{FIXED_BYTES, push_base, push_v2};
 use qcow2_base::{OnDiskStruct, V2Header, V3HeaderBase};
 use std::alloc::AllocError;
 
-/// Where each part of a header's text lies: the fixed parts with the places of the others.
+/// The layout of a header's text: its fixed parts, with the offsets of the other parts.
 #[derive(Drop)]
 pub(super) struct Layout {
-    /// Whether tables of feature names are written.
+    /// Whether the text has feature name tables.
     pub(super) with_names: bool,
-    /// The fixed part of all versions.
+    /// The fixed part of both versions.
     pub(super) v2: V2Header,
     /// The fixed part of version 3.
     pub(super) base: V3HeaderBase,
-    /// How many bytes the text has.
+    /// The length of the text in bytes.
     pub(super) len: usize,
 }
 
 impl Header {
-    // The layout of its text, with feature names or without; none where the text doesn't fit the first
-    // cluster.
+    // Returns the layout of the text with feature name tables or without, or `None` if the text doesn't fit
+    // the first cluster.
     #[tactic(auto, using(crate::proofs::HeaderLemmas::held_are, crate::proofs::LayoutLemmas::too_long))]
     pub(super) fn layout(&self, with_names: bool) -> Option<Layout>
         ensures layout { MatchOption result (fits_first_cluster (header_to_write with_names self.now) ≡ false)
@@ -49,7 +49,7 @@ impl Header {
         })
     }
 
-    // Where the extensions begin.
+    // Returns the offset of the extensions.
     fn header_end(&self) -> Option<usize>
         ensures { SomeIff result (header_end self.now < 2 ^ 64) (header_end self.now) }
     {
@@ -62,7 +62,7 @@ impl Header {
             .checked_add(FIXED_BYTES)
     }
 
-    // The text of that layout, in one buffer of its length.
+    // Returns the text in that layout, in one buffer of its length.
     pub(super) fn text(&self, layout: &Layout) -> Result<Vec<u8>, AllocError>
         requires { IsLayout (header_to_write layout.now.with_names self.now) layout.now }
         ensures text { IfOk result (λ text.
@@ -79,7 +79,7 @@ impl Header {
         Ok(text)
     }
 
-    // Appends what comes before the extensions to the text.
+    // Appends everything before the extensions to the text.
     fn push_parts(&self, text: &mut Vec<u8>, layout: &Layout) -> Result<(), AllocError>
         requires { IsLayout (header_to_write layout.now.with_names self.now) layout.now }
         ensures pushed { OnOk result (text.new.items

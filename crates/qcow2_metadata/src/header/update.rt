@@ -1,4 +1,4 @@
-//! Taking over what changed in another header of the same image.
+//! Updates a header from a newer one of the same image.
 
 ghost use Rattle.std.specs.Prelude.{◌≡◌, All, MatchResult, OnErr, OnOk};
 ghost use Rattle.qcow2_metadata.specs.Header.Update.{AgreeIn, IsFirstChange, kept_fields, same_value, value_in, with_size_and_tables};
@@ -6,7 +6,7 @@ ghost use Rattle.qcow2_metadata.specs.Header.Update.{AgreeIn, IsFirstChange, kep
 use super::Header;
 use qcow2_base::{Fault, Field};
 
-// The fields that an image in use must keep, in the order in which they are compared.
+// The fields that must not change while an image is used, in the order in which `update` compares them.
 const KEPT_FIELDS: [Field; 16] = [
     Field::Magic,
     Field::Version,
@@ -27,13 +27,13 @@ const KEPT_FIELDS: [Field; 16] = [
 ];
 
 impl Header {
-    /// Takes over from another header of the same image what may change while the image is used. That is the
-    /// size of the guest's disk, the L1 table's number of entries and offset, and the refcount table's offset
-    /// and number of clusters. All else stays as it is, the header's length too.
+    /// Copies from another header of the same image what may change while the image is used: the size of the
+    /// guest's disk, the L1 table's number of entries and offset, and the refcount table's offset and number
+    /// of clusters. Everything else stays, including the header's length.
     ///
-    /// But for these and the length both must say the same. Where they don't, returns fault 26 with the first
-    /// field that differs, in the order of `Field`, and changes nothing. The other header may be of another
-    /// cluster size, which is such a field. Takes no memory.
+    /// Apart from these and the length, both headers must be equal. Else returns fault 26 with the first
+    /// field that differs, in the order of `Field`, and changes nothing. The other header may have another
+    /// cluster size, which is such a field. Allocates nothing.
     pub fn update(&mut self, other: &Header) -> Result<(), Fault>
         ensures agree { MatchResult result (λ _. All (AgreeIn self.old other.now) kept_fields)
             (IsFirstChange self.old other.now) }
@@ -56,7 +56,7 @@ impl Header {
         Ok(())
     }
 
-    // Whether the other header says the same in this field.
+    // Whether the other header has the same value in this field.
     #[tactic(auto, using(crate::proofs::ExtensionsLemmas::same_extensions_of))]
     fn agrees_in(&self, other: &Header, field: Field) -> bool
         ensures { result ≡ same_value (value_in field self.now) (value_in field other.now) }

@@ -1,4 +1,4 @@
-//! Writing a header to the start of an image.
+//! Writes a header to the start of an image.
 
 ghost use Rattle.std.specs.Prelude.{◌≡◌, OnErr, OnOk, Ok, Some, length};
 ghost use Rattle.qcow2_base.specs.Storage.{OnImages, OnlyWrites};
@@ -12,16 +12,16 @@ use super::text::Layout;
 use qcow2_base::{Fault, MAX_BACKING_FILENAME, Storage};
 
 impl Header {
-    /// Writes the header to the start of the image, in one call of the storage: its fields, the
-    /// extensions, and the backing file's name, with nothing after it. Bytes past these stay.
+    /// Writes the header to the start of the image, in one call of the storage: its fields, the extensions,
+    /// and last the backing file's name. Later bytes stay.
     ///
-    /// Sets the header's length, and the place and the length of the backing file's name. Where the text
-    /// doesn't fit the first cluster, tables of feature names are left out, and the header loses them. The
-    /// header changes only after the storage accepted the write.
+    /// Sets the header's length, and the offset and length of the backing file's name. If the text doesn't
+    /// fit the first cluster, drops the feature name tables from it and from the header. The header changes
+    /// only after a successful write.
     ///
-    /// Refuses a backing file's name of more than 1023 bytes by fault 25, and a text that doesn't fit the
-    /// first cluster by 24. Only then it takes memory for the text and calls the storage. After any fault the
-    /// header is as before, and after any but the storage's no byte of the image changed.
+    /// Refuses a backing file's name of more than 1023 bytes (fault 25), then a text that doesn't fit the
+    /// first cluster (24). Only then allocates the text and calls the storage. Any fault leaves the header
+    /// unchanged, and any but the storage's leaves the image unchanged.
     pub fn write<S: Storage>(&mut self, image: &mut S) -> Result<(), Fault>
         ensures exact { RefusesFirst (λ _. self.new) result (header_after_write self.old) }
         ensures unchanged { OnErr result (self.new ≡ self.old) }
@@ -37,7 +37,7 @@ impl Header {
         Ok(())
     }
 
-    // The layout that is written: with feature names if that fits, or else without.
+    // Returns the layout to write: with feature name tables if that fits, else without.
     #[tactic(auto, using(crate::proofs::LayoutLemmas::choices))]
     fn chosen_layout(&self) -> Result<Layout, Fault>
         ensures { IsChosen self.now result }
@@ -51,7 +51,7 @@ impl Header {
         self.layout(false).ok_or(Fault::HeaderTooLong)
     }
 
-    // Makes the header what was written.
+    // Makes this the header that was written.
     fn take_over(&mut self, layout: Layout)
         requires { IsLayout (header_to_write layout.with_names self.old) layout }
         ensures { self.new ≡ header_with_places (header_to_write layout.with_names self.old) }
@@ -63,15 +63,14 @@ impl Header {
         }
     }
 
-    /// The header of an image that is now to be written, as a load for writing returns it. Who means to write
-    /// to an image must know each autoclear feature that its header names, and none is known here.
+    /// Makes a header writable, and returns it as a load for writing does. A program that writes to an image
+    /// must know each autoclear feature of its header, and this one knows none.
     ///
-    /// A header without any is returned as it is, and the storage isn't called. Else it is written without
-    /// any, as `write` writes it, and what was written is returned. A header that has no room in the first
-    /// cluster then is refused by fault 24, and one whose backing file's name has more than 1023 bytes by 25,
-    /// as none is that was loaded. Only then it takes memory for the text and calls the storage. After any
-    /// fault but the storage's no byte of the image changed. After that one any bytes may be where the text
-    /// goes.
+    /// Returns a header without autoclear features as it is, without a call of the storage. Else clears them,
+    /// writes the header as `write` does, and returns what it wrote. Refuses a backing file's name of more
+    /// than 1023 bytes (fault 25), which no loaded header has, and a header that doesn't fit the first
+    /// cluster (24). Only then allocates the text and calls the storage. Any fault but the storage's leaves
+    /// the image unchanged. The storage's may leave any bytes in the range of the text.
     pub fn into_writable<S: Storage>(mut self, image: &mut S) -> Result<Header, Fault>
         ensures idle { self.base.autoclear_features ≡ 0 → (result ≡ Ok self) × (image.new ≡ image.old) }
         ensures writable { BecomesWritable self result (S.state image.old) (S.state image.new) }
