@@ -1,5 +1,5 @@
-//! Laws: facts about the definitions that contracts name, and what holds of each header. Each is a function
-//! that does nothing. Its contract is the law, and its name says it.
+//! Laws: facts about the definitions that contracts name, and about every header. Each is a function that
+//! does nothing. Its contract is the law, and its name says it.
 
 ghost use Rattle.std.specs.Prelude.{◌≡◌, ℕ, Bool, true, false, ◌≤◌, ◌↔◌, Ok, ◌∷◌, if◌then◌else◌, Some, ◌^◌, ◌<◌, max, List, Err, ◌≢◌, ◌++◌, length, slice_index};
 ghost use Rattle.qcow2_base.specs.Storage.{Image, SameOutside, be};
@@ -26,21 +26,21 @@ ghost use Rattle.qcow2_metadata.specs.Table.L2Guards.{GivesUp, clusters_freed_by
 
 use crate::Header;
 
-/// A header is read from an image exactly where the grammar says that the image begins with it.
+/// An image's header loads exactly if the grammar says that the image begins with it.
 pub fn the_grammar_and_the_reader_agree()
     ensures { (image : Image) (header : HeaderRecord) →
         (header_of image ≡ Ok header) ↔ IsHeader image header }
 {}
 
-/// A chain of extensions that breaks at its last one is refused by the fault of that one.
+/// A chain of extensions whose last one is invalid is refused with the fault of that one.
 pub fn a_broken_chain_is_refused()
     ensures { (image : Image) (len place : ℕ) (links : List Link) (last : Link) (fault : Fault) →
         IsChain image len place links last → BreaksBy image len last fault →
         extensions_at image len place ≡ Err fault }
 {}
 
-/// A chunk of a feature name table names the feature of its key, whatever earlier ones said of that, and
-/// leaves what they said of others. So the last chunk of a key names its feature.
+/// An entry of a feature name table names the feature of its key, whatever earlier entries named it, and
+/// leaves the names of all others. So the last entry of a key names its feature.
 pub fn the_last_chunk_of_a_key_names_its_feature()
     ensures { (names : FeatureNames) (kind : FeatureType) (bit : ℕ) (name : List ℕ)
         (other : FeatureKey) →
@@ -50,8 +50,8 @@ pub fn the_last_chunk_of_a_key_names_its_feature()
         else feature_name_in other (FeatureNameTable names)) }
 {}
 
-/// Images with the same first cluster have the same header, or are refused by the same fault. That are
-/// `2 ^ cluster_bits` bytes, as the image says at 20, and 512 in any case.
+/// Images with the same first cluster have the same header, or are refused with the same fault. The first
+/// cluster has `2 ^ cluster_bits` bytes, by the field at 20, and at least 512.
 pub fn only_the_first_cluster_matters()
     ensures { (image other : Image) →
         ((o : ℕ) → o < max 512 (2 ^ be image 20 4) → other o ≡ image o) → header_of other ≡ header_of image }
@@ -64,52 +64,50 @@ pub fn every_header_is_valid(header: &Header)
     header.validity()
 }
 
-/// What a write leaves of a valid header can be written again, and places the same bytes. So does what it
-/// reads back as, which reads back as itself.
+/// The header that a write of a valid header leaves can be written again, with the same bytes. So can the
+/// header that these bytes load as, which reads back as itself.
 pub fn a_written_header_reads_back()
     ensures { (header written : HeaderRecord) → IsValidHeader header →
         header_after_write header ≡ Ok written → IsSettled written }
 {}
 
-/// A header that is made one whose image may be written says of the image what it said before. So does what
-/// it reads back as.
+/// A header made writable describes the same image as before. So does the header that it reads back as.
 pub fn a_header_made_writable_says_the_same()
     ensures { (header written : HeaderRecord) → header_after_load true (Ok header) ≡ Ok written →
         SaysSame header written × SaysSame header (header_read_back written) }
 {}
 
-/// Where the eight bytes of autoclear features become 0 in an image of version 3, and no other byte changes,
-/// the image has the header that it had, without these features. This asks that no byte of the backing
-/// file's name is one of them: by the grammar a name may lie anywhere in the first cluster, also over fields.
+/// If the eight bytes of autoclear features become 0 in an image of version 3, and no other byte changes, the
+/// image has its old header without these features. This requires that the backing file's name has none of
+/// these bytes: the grammar allows a name anywhere in the first cluster, even over fields.
 pub fn a_cleared_field_leaves_the_other_parts_of_a_header()
     ensures { (header : HeaderRecord) (image other : Image) → header_of image ≡ Ok header →
         header.v2.version ≡ 3 → SameOutside 88 8 image other → be other 88 8 ≡ 0 → HasNameElsewhere header →
         header_of other ≡ Ok (without_autoclear header) }
 {}
 
-/// The number of spare entries by division is the least that is enough, and one at least.
+/// The number of spare entries by division is the least sufficient one, and at least 1.
 pub fn the_spare_by_division_is_the_least()
     ensures { (header : HeaderRecord) (len index : ℕ) → IsClusterBits header.v2.cluster_bits →
         header.base.refcount_order ≤ 6 →
         IsLeastSpare (growth_of header len index) (least_spare (growth_of header len index)) }
 {}
 
-/// The clusters that an L2 entry refers to are those of which it refers to a byte.
+/// An L2 entry refers to exactly the clusters of which it refers to a byte.
 pub fn an_entry_refers_to_the_clusters_it_meets()
     ensures { (g : Geometry) (entry : ℕ) → IsClusterBits g.cluster_bits →
         IsAllocation g entry (allocation g entry) }
 {}
 
-/// The copied flag of an L1 entry says nothing of the offset that the entry names, nor of whether it is
-/// valid.
+/// The copied flag of an L1 entry changes neither the entry's offset nor whether the entry is valid.
 pub fn the_flag_of_an_l1_entry_names_no_table()
     ensures { (cluster_bits entry : ℕ) (copied : Bool) →
         (offset_field (with_copied copied entry) ≡ offset_field entry)
         × (l1_fault cluster_bits (with_copied copied entry) ≡ l1_fault cluster_bits entry) }
 {}
 
-/// The copied flag of an L2 entry says nothing of the clusters that the entry refers to, but where it has
-/// nothing else to say that it refers to cluster 0 of an external data file.
+/// The copied flag of an L2 entry doesn't change the clusters that the entry refers to, except where it alone
+/// shows a reference to cluster 0 of an external data file.
 #[tactic(auto, using(crate::proofs::CopiedLemmas::clusters))]
 pub fn the_flag_of_an_l2_entry_names_no_cluster()
     ensures { (g : Geometry) (entry : ℕ) (copied : Bool) → IsClusterBits g.cluster_bits →
@@ -117,7 +115,7 @@ pub fn the_flag_of_an_l2_entry_names_no_cluster()
         allocation g (with_copied copied entry) ≡ allocation g entry }
 {}
 
-/// An entry that is mapped to a cluster gives up nothing where it refers to that one alone, and else all
+/// An entry that is mapped to a cluster frees nothing if it refers to that one alone, and else all clusters
 /// that it refers to.
 #[tactic(auto, using(crate::proofs::L2GuardsLemmas::gives_up))]
 pub fn a_mapping_gives_up_all_but_its_own_cluster()
@@ -125,7 +123,7 @@ pub fn a_mapping_gives_up_all_but_its_own_cluster()
         GivesUp g entry cluster (clusters_freed_by g (to_data cluster) entry) }
 {}
 
-/// An entry that no edit of a list names stays.
+/// An entry that no edit of a list names stays the same.
 #[tactic(auto, using(crate::proofs::L2GuardsLemmas::run_of_others))]
 pub fn an_entry_that_no_edit_names_stays()
     ensures { (g : Geometry) (edits : List TableEdit) (numbers : List ℕ) (index : ℕ) →
@@ -133,7 +131,7 @@ pub fn an_entry_that_no_edit_names_stays()
         slice_index (run_of g edits numbers).numbers index ≡ slice_index numbers index }
 {}
 
-/// After a list of edits an entry is what the last edit of its index makes of what those before it left.
+/// After a list of edits, an entry is the result of the last edit of its index on the result of those before.
 #[tactic(auto, using(crate::proofs::L2GuardsLemmas::run_of_last))]
 pub fn the_last_edit_of_an_entry_decides_it()
     ensures { (g : Geometry) (before later : List TableEdit) (e : TableEdit) (numbers : List ℕ) →
@@ -142,7 +140,7 @@ pub fn the_last_edit_of_an_entry_decides_it()
         ≡ entry_after g e.edit (slice_index (run_of g before numbers).numbers e.index) }
 {}
 
-/// What a list of edits hands back is what its first part hands back, and then what the others do after it.
+/// A list of edits frees what its first part frees, followed by what the rest frees after it.
 #[tactic(auto, using(crate::proofs::L2GuardsLemmas::run_of_freed))]
 pub fn edits_hand_back_in_their_order()
     ensures { (g : Geometry) (before later : List TableEdit) (numbers : List ℕ) →

@@ -1,4 +1,4 @@
-//! Refcount blocks: how many references each cluster of a part of the image has.
+//! Refcount blocks: the refcounts of the host clusters of a part of the image.
 
 ghost use Rattle.std.specs.Prelude.{◌≡◌, ◌≢◌, ◌+◌, ◌*◌, ◌^◌, ◌<◌, ◌≤◌, ◌==◌, IfErr, IfOk, IsOkUnless, None, Ok, OnErr, OnOk, Some, false, length, option_map, replicate, slice_index, true};
 ghost use Rattle.qcow2_base.specs.Format.{max_file_length};
@@ -26,12 +26,12 @@ use qcow2_base::{Fault, HostCluster, HostOffset, Storage};
 use std::alloc::Global;
 use std::marker::Model;
 
-/// By the refcount order: the greatest number that a counter holds.
+/// The greatest refcount, by the refcount order.
 const GREATEST_COUNTERS: [u64; 7] = [1, 3, 15, 255, 65535, 4294967295, 18446744073709551615];
 
-/// The reference counters of the host clusters of one part of an image: it fills one cluster.
+/// The refcounts of the host clusters of one part of an image. The block fills one cluster.
 ///
-/// A counter has `2^refcount_order` bits. The block may have a cluster in the image, where it begins, and
+/// A refcount has `2^refcount_order` bits. The block may have a place in the image, given by its cluster, and
 /// knows whether it was changed since it was last read or written.
 #[derive(Debug, Drop)]
 pub struct RefBlock {
@@ -59,8 +59,8 @@ impl Model for RefBlock {
         (kept_counters b.counters) };
 }
 
-// Reads the counters of the block that begins at an offset of the image, in pieces of 4096 bytes. After a
-// fault they may be any that fit.
+// Reads the refcounts of the block at an offset of the image, in pieces of 4096 bytes. A fault may leave any
+// refcounts that fit.
 fn read_counters<S: Storage>(
     counters: &mut Counters,
     image: &mut S,
@@ -89,8 +89,8 @@ fn read_counters<S: Storage>(
 }
 
 impl RefBlock {
-    /// A block of an image with this header in which no cluster has a reference. It has no cluster, and
-    /// counts as modified. Fails only where memory runs out.
+    /// Returns a block of zeros for an image with this header. It has no cluster, and counts as modified.
+    /// Fails only if memory runs out.
     #[tactic(auto, using(crate::proofs::RefblockLemmas::zeros_are_valid))]
     pub fn new_cleared<S: Storage>(
         alloc: Global,
@@ -102,7 +102,7 @@ impl RefBlock {
             (replicate (block_entries header.v2.cluster_bits header.base.refcount_order) 0)
             (block_geometry_of header)) }
     {
-        // Counters in memory have no alignment that the image asks for.
+        // Refcounts in memory need none of the image's alignment.
         let _ = image;
         let refcount_order = header.refcount_order();
         let counters = Counters::zeros(alloc, refcount_order, header.rb_entries())?;
@@ -117,9 +117,8 @@ impl RefBlock {
         })
     }
 
-    /// Reads the block that begins with a cluster of the image, in pieces of 4096 bytes. It has that
-    /// cluster and doesn't count as modified. Refuses an end past 2^56. Changes no byte, whatever it
-    /// returns.
+    /// Loads the block at a cluster of the image, in pieces of 4096 bytes. It then has that cluster and
+    /// doesn't count as modified. Refuses an end past 2^56 (21). Never changes a byte.
     #[tactic(auto, using(crate::proofs::RefblockLemmas::zeros_are_valid))]
     pub fn load<S: Storage>(
         alloc: Global,
@@ -148,9 +147,9 @@ impl RefBlock {
         })
     }
 
-    /// Reads the block that begins with a cluster of the image into this one, as `load` does, but takes no
-    /// memory. Refuses an end past 2^56 (21), and stays then. After a storage fault its counters may be any,
-    /// it has no cluster, and counts as modified. Changes no byte, whatever it returns.
+    /// Reads the block at a cluster of the image over this one, as `load` does, but allocates nothing.
+    /// Refuses an end past 2^56 (21), and then leaves this block unchanged. A storage fault (34) may leave
+    /// any refcounts; the block then has no cluster, and counts as modified. Never changes a byte.
     pub fn reload<S: Storage>(
         &mut self,
         image: &mut S,
@@ -179,12 +178,12 @@ impl RefBlock {
         Ok(())
     }
 
-    /// Writes the block to the image, from its cluster on, in pieces of 4096 bytes.
+    /// Writes the block to the image, at its cluster, in pieces of 4096 bytes.
     ///
-    /// Refuses a block with no cluster, then an end past 2^56. After `Ok` the block doesn't count as
-    /// modified. After a storage fault it does, and some pieces are written, then any bytes may be in
-    /// one, and those after it are as before. After any other refusal nothing has changed. Counters and
-    /// cluster stay whatever it returns, and no byte outside the block's cluster changes.
+    /// Refuses a block without a cluster (22), then an end past 2^56 (21). After `Ok` the block doesn't count
+    /// as modified. After a storage fault (34) it does, some pieces are written, the next one may have any
+    /// bytes, and those after it are unchanged. Any other refusal changes nothing. Refcounts and cluster
+    /// always stay, and no byte outside the block's cluster changes.
     pub fn write<S: Storage>(&mut self, image: &mut S) -> Result<(), Fault>
         ensures written { Writes (block_layout self.old.geometry) self.old.numbers self.old.cluster result
             (S.state image.old) (S.state image.new) }
@@ -196,8 +195,8 @@ impl RefBlock {
         written
     }
 
-    /// Writes the block to the image, as `write` does, if it counts as modified. The block must then
-    /// begin with the given cluster. A block that doesn't count so is left alone, and so is the image.
+    /// Writes the block to the image, as `write` does, if it counts as modified. Its cluster must then be the
+    /// given one. Else changes neither block nor image.
     pub fn write_if_modified<S: Storage>(
         &mut self,
         image: &mut S,
@@ -207,7 +206,7 @@ impl RefBlock {
         ensures { WritesIfModified S.state (block_layout self.old.geometry) result self.old self.new
             image.old image.new }
     {
-        // The caller's word for the cluster is in the contract alone.
+        // Only the contract uses the cluster.
         let _ = cluster;
         let mut placement = self.placement;
         let written = placement.write_if_modified(&*self, Pieces::All, image);
@@ -215,9 +214,9 @@ impl RefBlock {
         written
     }
 
-    /// Writes those pieces of the block to the image that this doesn't have already, if the block counts as
-    /// modified. The block must then begin with the given cluster. It does what `write_if_modified` does by
-    /// fewer bytes written, and reads each piece first.
+    /// Writes only those pieces of the block that differ from the image, if the block counts as modified. Its
+    /// cluster must then be the given one. Has the effect of `write_if_modified` with fewer bytes written,
+    /// but reads each piece first.
     pub fn write_changes<S: Storage>(
         &mut self,
         image: &mut S,
@@ -227,7 +226,7 @@ impl RefBlock {
         ensures { WritesIfModified S.state (block_layout self.old.geometry) result self.old self.new
             image.old image.new }
     {
-        // The caller's word for the cluster is in the contract alone.
+        // Only the contract uses the cluster.
         let _ = cluster;
         let mut placement = self.placement;
         let written = placement.write_if_modified(&*self, Pieces::Changed, image);
@@ -235,7 +234,7 @@ impl RefBlock {
         written
     }
 
-    /// How many counters the block has.
+    /// Returns the number of refcounts in the block.
     #[inline]
     pub fn entries(&self) -> usize
         ensures count { result ≡ length self.now.numbers }
@@ -246,7 +245,7 @@ impl RefBlock {
         1 << (self.cluster_bits + 3 - self.refcount_order)
     }
 
-    /// How many references the cluster has that the counter at an index is for.
+    /// Returns the refcount at an index.
     #[inline]
     pub fn get(&self, index: usize) -> u64
         requires { index < length self.now.numbers }
@@ -256,7 +255,7 @@ impl RefBlock {
         self.counters.get(index)
     }
 
-    /// Whether the cluster has no reference that the counter at an index is for.
+    /// Whether the refcount at an index is 0.
     #[inline]
     pub fn is_zero(&self, index: usize) -> bool
         requires { index < length self.now.numbers }
@@ -265,7 +264,7 @@ impl RefBlock {
         self.get(index) == 0
     }
 
-    /// The cluster in the image that the block begins with.
+    /// Returns the block's cluster in the image, or `None` if it has no place.
     #[inline]
     pub fn get_cluster(&self) -> Option<HostCluster>
         ensures { result ≡ self.now.cluster }
@@ -273,7 +272,7 @@ impl RefBlock {
         self.placement.cluster
     }
 
-    /// The offset in the image that the block begins at.
+    /// Returns the block's offset in the image, or `None` if it has no place.
     #[inline]
     pub fn get_offset(&self) -> Option<HostOffset>
         ensures { option_map (λ (offset : Offset). offset.0) result
@@ -282,8 +281,8 @@ impl RefBlock {
         Some(self.placement.cluster?.offset(self.cluster_bits))
     }
 
-    /// Says where in the image the block begins: at a cluster whose offset fits 64 bits. The block then
-    /// counts as modified.
+    /// Places the block at a cluster of the image, whose offset must fit 64 bits. The block then counts as
+    /// modified.
     pub fn set_cluster(&mut self, cluster: HostCluster)
         requires { offset_of (block_layout self.old.geometry) cluster < 2 ^ 64 }
         ensures { self.new ≡ record self.old { cluster = Some cluster; modified = true } }
@@ -292,7 +291,7 @@ impl RefBlock {
         self.placement.modified = true;
     }
 
-    /// The logarithm of the cluster size in bytes, from 9 to 21.
+    /// Returns the logarithm of the cluster size in bytes, from 9 to 21.
     #[inline]
     pub fn cluster_bits(&self) -> u32
         ensures value { result ≡ self.now.geometry.cluster_bits }
@@ -301,7 +300,7 @@ impl RefBlock {
         self.cluster_bits
     }
 
-    /// The logarithm of the number of bits that a counter has, from 0 to 6.
+    /// Returns the logarithm of the width of a refcount in bits, from 0 to 6.
     #[inline]
     pub fn refcount_order(&self) -> u32
         ensures value { result ≡ self.now.geometry.refcount_order }
@@ -318,26 +317,27 @@ impl RefBlock {
         self.placement.modified
     }
 
-    /// Says that the block is the same as in the image.
+    /// Marks the block as equal to the image's.
     pub fn clear_modified(&mut self)
         ensures { self.new ≡ record self.old { modified = false } }
     {
         self.placement.modified = false;
     }
 
-    /// Says that the block is not the same as in the image.
+    /// Marks the block as different from the image's.
     pub fn set_modified(&mut self)
         ensures { self.new ≡ record self.old { modified = true } }
     {
         self.placement.modified = true;
     }
 
-    /// The allocator that the block keeps its counters with.
+    /// Returns the allocator of the block's refcounts.
     pub fn allocator(&self) -> Global {
         self.kept().allocator()
     }
 
-    // The counters as memory has them: one number each, in the smallest integers that hold an order's.
+    // Returns the refcounts as memory has them: one integer each, of the smallest type for the refcount
+    // order.
     #[inline]
     fn kept(&self) -> &Counters
         ensures integers { IsOfOrder self.now.geometry.refcount_order result.now }
@@ -356,7 +356,7 @@ impl RefBlock {
         GREATEST_COUNTERS[self.refcount_order as usize]
     }
 
-    // Puts a number that a counter holds in the place of one. The block then counts as modified.
+    // Replaces the refcount at an index by one that fits its width. The block then counts as modified.
     #[inline]
     fn set(&mut self, index: usize, counter: u64)
         requires index { index < length self.old.numbers }
@@ -367,7 +367,7 @@ impl RefBlock {
         self.placement.modified = true;
     }
 
-    /// Permission to change the block's counters.
+    /// Returns a guard for changes of the block's refcounts.
     pub fn lock_write(&mut self) -> RefBlockWriteGuard<'_>
         ensures { IsBlockGuard self.entry result }
     {

@@ -9,10 +9,10 @@ use crate::Header;
 use qcow2_base::{Fault, HostCluster, HostOffset, field};
 use std::marker::Model;
 
-/// An entry of an L1 table: where an L2 table lies, if there is one for that part of the disk.
+/// An entry of an L1 table: the place of the L2 table of a part of the disk, if there is one.
 ///
-/// Bits 9 to 55 are the offset of the L2 table, 0 for none; bit 63 is the copied flag; bits 0 to 8 and
-/// 56 to 62 are reserved.
+/// Bits 9 to 55 are the offset of the L2 table, 0 for none; bit 63 is the copied flag; bits 0 to 8 and 56 to
+/// 62 are reserved.
 #[derive(Clone, Copy, Debug, PartialEq, Eq)]
 pub struct L1Entry {
     value: u64,
@@ -32,7 +32,7 @@ impl L1Entry {
     ghost use Rattle.qcow2_metadata.specs.Entries.{is_copied, offset_field, offset_unless_zero, with_copied};
     ghost use Rattle.qcow2_metadata.specs.Entries.L1Entry.{l1_fault, l1_reserved_bits};
 
-    /// The entry 0: there is no L2 table.
+    /// The entry 0, without an L2 table.
     pub(crate) const NONE: L1Entry = L1Entry { value: 0 };
 
     #[tactic(auto, using(crate::proofs::EntriesLemmas::l1_entry_is_lawful))]
@@ -47,7 +47,7 @@ impl L1Entry {
         }
     }
 
-    /// The offset of the L2 table, if there is one.
+    /// Returns the offset of the L2 table, or `None` without one.
     #[inline]
     pub fn l2_offset(&self) -> Option<HostOffset>
         ensures { result ≡ offset_unless_zero (offset_field self.now) }
@@ -58,7 +58,7 @@ impl L1Entry {
         }
     }
 
-    /// Bit 63: the refcount of the L2 table's cluster is exactly one.
+    /// Returns the copied flag, bit 63: the refcount of the L2 table's cluster is exactly one.
     #[inline]
     pub fn is_copied(&self) -> bool
         ensures { result ≡ is_copied self.now }
@@ -66,7 +66,7 @@ impl L1Entry {
         field(self.value, 63, 1) == 1
     }
 
-    /// The entry with bit 63 set or clear. All else of it stays.
+    /// Returns the entry with the copied flag set or clear, and all else the same.
     #[inline]
     #[must_use]
     #[tactic(auto, using(crate::proofs::CopiedLemmas::flags))]
@@ -80,7 +80,7 @@ impl L1Entry {
         }
     }
 
-    /// The reserved bits that are set, at their places.
+    /// Returns the reserved bits that are set, in their positions.
     #[inline]
     pub fn reserved_bits(&self) -> u64
         ensures { result ≡ l1_reserved_bits self.now }

@@ -1,4 +1,4 @@
-//! The entries of L2 tables: where the data of a guest cluster lies, or that it reads as zeros.
+//! Entries of L2 tables: the place of a guest cluster's data, or zeros.
 
 ghost use Rattle.std.specs.Prelude.{◌≡◌, ℕ, ◌+◌, ◌*◌, ◌%◌, ◌^◌, ◌<◌, ◌≤◌, true, false, is_some, Some, None, option_map, IfSome, IfNone, IfOk, IsOkAnd};
 ghost use Rattle.std.specs.Int.NonZero.{non_zero_u64_get};
@@ -17,13 +17,12 @@ use std::num::NonZero;
 
 /// An entry of an L2 table.
 ///
-/// Standard (bit 62 is 0): bit 0 is the zero flag, bits 9 to 55 are the offset of a host cluster, bit
-/// 63 is the copied flag. Bits 1 to 8 and 56 to 61 are reserved. Offset 0 is that of a cluster only
-/// where it is copied and lies in an external data file; else it is none.
+/// Standard (bit 62 is 0): bit 0 is the zero flag, bits 9 to 55 are the offset of a host cluster, bit 63 is
+/// the copied flag. Bits 1 to 8 and 56 to 61 are reserved. Offset 0 means no cluster, except with the copied
+/// flag in an external data file, where it is cluster 0.
 ///
-/// Compressed (bit 62 is 1), with `x = 70 - cluster_bits`: bits 0 to x - 1 are the offset of the data,
-/// below 2^56. Bits x to 61 are the number of sectors of 512 bytes beyond the first. Bit 63 is
-/// reserved.
+/// Compressed (bit 62 is 1), with `x = 70 - cluster_bits`: bits 0 to x - 1 are the offset of the data, below
+/// 2^56. Bits x to 61 are the number of sectors of 512 bytes after the first. Bit 63 is reserved.
 #[derive(Clone, Copy, Debug, PartialEq, Eq)]
 pub struct L2Entry {
     pub(super) value: u64,
@@ -44,13 +43,13 @@ impl L2Entry {
     ghost use Rattle.qcow2_metadata.specs.Entries.L2Mapping.{IsPlaced, host_cluster, mapping, meaning};
     ghost use Rattle.qcow2_metadata.specs.Entries.{is_copied, with_copied};
 
-    /// The entry 0: the guest cluster has no data here.
+    /// The entry 0: this image maps nothing.
     pub(crate) const UNALLOCATED: L2Entry = L2Entry { value: 0 };
 
-    /// The entry 1: the guest cluster reads as zeros, and has no host cluster.
+    /// The entry 1: zeros without a host cluster.
     pub(crate) const ZERO: L2Entry = L2Entry { value: 1 };
 
-    /// The offset of the host cluster that a standard entry refers to, if it refers to one.
+    /// Returns the offset of the host cluster of a standard entry, or `None` without one.
     #[inline]
     pub fn cluster_offset(&self, external_data_file: bool) -> Option<HostOffset>
         requires { is_compressed self.now ≡ false }
@@ -60,7 +59,7 @@ impl L2Entry {
         (offset != 0 || external_data_file && self.is_copied()).then_some(HostOffset(offset))
     }
 
-    /// Whether the entry is a compressed one: bit 62.
+    /// Whether the entry is compressed: bit 62.
     #[inline]
     pub fn is_compressed(&self) -> bool
         ensures { result ≡ is_compressed self.now }
@@ -68,7 +67,7 @@ impl L2Entry {
         field(self.value, 62, 1) == 1
     }
 
-    /// Bit 63. In a standard entry: the refcount of its cluster is exactly one.
+    /// Returns bit 63, the copied flag of a standard entry: the refcount of its cluster is exactly one.
     #[inline]
     pub fn is_copied(&self) -> bool
         ensures { result ≡ is_copied self.now }
@@ -76,8 +75,8 @@ impl L2Entry {
         field(self.value, 63, 1) == 1
     }
 
-    /// The entry with bit 63 clear: a standard entry no longer says that its cluster has exactly one
-    /// reference, and a compressed one stays as it is.
+    /// Returns the entry with bit 63 clear. A standard entry then no longer says that its cluster has exactly
+    /// one reference; a valid compressed one stays the same.
     #[inline]
     #[must_use]
     #[tactic(auto, using(crate::proofs::CopiedLemmas::lawful_without_copied))]
@@ -91,7 +90,8 @@ impl L2Entry {
         }
     }
 
-    /// The entry with bit 63 set or clear. All else of it stays. A compressed entry can't have it set.
+    /// Returns the entry with bit 63 set or clear, and all else the same. It must not be set in a compressed
+    /// entry.
     #[inline]
     #[must_use]
     #[tactic(auto, using(crate::proofs::CopiedLemmas::flags))]
@@ -106,8 +106,8 @@ impl L2Entry {
         }
     }
 
-    // The entry where a second table has it too: its clusters then have two references. The copied flag
-    // stays where it says that offset 0 is that of a cluster, in an external data file.
+    // Returns the entry for a second table that has it too, whose clusters then have two references. Clears
+    // the copied flag, unless it alone says that offset 0 is cluster 0 of an external data file.
     #[inline]
     pub(crate) fn shared(self, external_data_file: bool) -> L2Entry
         ensures number { result ≡ entry_in_copy external_data_file self }
@@ -120,7 +120,7 @@ impl L2Entry {
         self.without_copied()
     }
 
-    /// Bit 0. In a standard entry: the guest cluster reads as zeros.
+    /// Returns bit 0, the zero flag of a standard entry: the guest cluster reads as zeros.
     #[inline]
     pub fn is_zero(&self) -> bool
         ensures { result ≡ is_zero self.now }
@@ -136,7 +136,7 @@ impl L2Entry {
         !self.is_compressed() && self.cluster_offset(external_data_file).is_some()
     }
 
-    // The entry with the zero flag set: the guest cluster reads as zeros, and keeps its host cluster.
+    // Returns the entry with the zero flag set: the guest cluster reads as zeros, and keeps its host cluster.
     #[inline]
     pub(crate) fn with_zero_flag(self) -> L2Entry
         ensures { result ≡ with_zero_flag self }
@@ -146,7 +146,7 @@ impl L2Entry {
         }
     }
 
-    /// The reserved bits of the entry's kind that are set, at their places.
+    /// Returns the bits that are set and reserved in an entry of this kind, in their positions.
     #[inline]
     pub fn reserved_bits(&self) -> u64
         ensures { result ≡ l2_reserved_bits self.now }
@@ -158,7 +158,7 @@ impl L2Entry {
         }
     }
 
-    /// Bits 0 to 61: of a compressed entry, its offset and its number of sectors.
+    /// Returns bits 0 to 61, which are the offset and number of sectors of a compressed entry.
     #[inline]
     pub fn compressed_descriptor(&self) -> u64
         ensures { result ≡ self.now % 2 ^ 62 }
@@ -166,8 +166,8 @@ impl L2Entry {
         field(self.value, 0, 62)
     }
 
-    /// Where a compressed entry's data begins, and how many bytes there are from there to the end of
-    /// its last sector. None for a standard entry.
+    /// Returns the offset of a compressed entry's data, and the number of bytes from there to the end of its
+    /// last sector, or `None` for a standard entry.
     #[tactic(auto, using(crate::proofs::EntriesLemmas::sectors_fill_two_clusters))]
     pub fn compressed_range(&self, cluster_bits: u32) -> Option<(HostOffset, NonZero<u64>)>
         requires { IsClusterBits cluster_bits }
@@ -187,7 +187,7 @@ impl L2Entry {
         Some((HostOffset(offset), length))
     }
 
-    /// The host clusters that the entry refers to, the first and how many: one for a standard entry
+    /// Returns the first host cluster that the entry refers to and their number: one for a standard entry
     /// with a cluster, up to three for a compressed one.
     pub fn allocation(
         &self,
@@ -232,7 +232,7 @@ impl L2Entry {
         Some(offset.cluster(cluster_bits))
     }
 
-    /// What a guest cluster with this entry reads as. Always returns a mapping.
+    /// Returns the mapping of a guest cluster with this entry. Always returns `Ok`.
     pub fn into_mapping(
         self,
         guest_cluster: GuestCluster,
@@ -297,7 +297,7 @@ impl TableEntry for L2Entry {
     fn is_lawful(value: u64, header: &Header) -> bool {
         let cluster_bits = header.cluster_bits();
         let entry = L2Entry { value };
-        // The bits of a compressed offset from 56 on, which a valid one doesn't have.
+        // The bits of a compressed offset from 56 on, all 0 in a valid one.
         let compressed = (value >> 56 << 56) % (1 << (70 - cluster_bits)) == 0;
         let standard = HostOffset(field(value, 9, 47) * 512).in_cluster_offset(cluster_bits) == 0;
         let is_compressed = entry.is_compressed();
@@ -316,7 +316,7 @@ impl TableEntry for L2Entry {
     }
 }
 
-/// The cell of an L2 table that holds an entry.
+/// A cell of an L2 table, which has an entry.
 #[derive(Clone, Copy, Debug, PartialEq, Eq)]
 pub struct AtomicL2Entry {
     entry: L2Entry,
@@ -333,7 +333,7 @@ impl Model for AtomicL2Entry {
 }
 
 impl AtomicL2Entry {
-    /// A cell that holds the entry.
+    /// Returns a cell with the entry.
     #[inline]
     pub fn new(entry: L2Entry) -> AtomicL2Entry
         ensures { result ≡ entry }
@@ -341,7 +341,7 @@ impl AtomicL2Entry {
         AtomicL2Entry { entry }
     }
 
-    /// The entry in the cell.
+    /// Returns the entry in the cell.
     #[inline]
     pub fn get(&self) -> L2Entry
         ensures { result ≡ self.now }
@@ -349,7 +349,7 @@ impl AtomicL2Entry {
         self.entry
     }
 
-    /// Puts an entry into the cell, and returns the one before.
+    /// Replaces the entry in the cell, and returns the old one.
     #[inline]
     pub fn swap(&mut self, entry: L2Entry) -> L2Entry
         ensures before { result ≡ self.old }

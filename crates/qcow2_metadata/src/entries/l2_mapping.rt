@@ -1,4 +1,4 @@
-//! What guest clusters read as, and the L2 entries that say so.
+//! Mappings of guest clusters, and their L2 entries.
 
 ghost use Rattle.std.specs.Prelude.{◌≡◌, ℕ, Bool, ◌-◌, ◌^◌, ◌<◌, None};
 ghost use Rattle.qcow2_base.specs.Types.{IsClusterBits};
@@ -10,42 +10,42 @@ use super::{L2Entry, copied_bit};
 use qcow2_base::{HostCluster, HostOffset};
 use std::num::NonZero;
 
-/// What a guest cluster reads as.
+/// The mapping of a guest cluster: what the guest reads.
 #[derive(Clone, Copy, Debug, PartialEq, Eq)]
 pub enum L2Mapping {
-    /// Data is in the data file: the image, or its external data file.
+    /// Data in the data file: the image, or its external data file.
     DataFile {
         host_cluster: HostCluster,
-        /// The cluster's refcount is exactly one, so it may be written in place.
+        /// The copied flag: the cluster's refcount is exactly one, so it may be written in place.
         copied: bool,
     },
-    /// Data is in the backing file at this offset in bytes, or zero where there is no such file.
+    /// The backing file's data from this offset in bytes, or zeros without a backing file.
     Backing {
         backing_offset: u64,
     },
-    /// Data is zero.
+    /// Zeros.
     Zero {
-        /// A cluster of the data file that is allocated all the same.
+        /// The cluster of the data file that is allocated nevertheless.
         host_cluster: Option<HostCluster>,
-        /// Its refcount is exactly one.
+        /// The copied flag: its refcount is exactly one.
         copied: bool,
     },
-    /// Data is compressed in the image.
+    /// Compressed data in the image.
     Compressed {
         host_offset: HostOffset,
-        /// At most how many bytes the compressed data takes.
+        /// The greatest length of the compressed data, in bytes.
         length: NonZero<u64>,
     },
 }
 
 impl L2Mapping {
-    /// Whether this mapping, of some guest cluster, goes on where `preceding`, that of the guest cluster
-    /// before it, ends, in an image with clusters of `2^cluster_bits` bytes.
+    /// Whether this mapping of a guest cluster continues `preceding`, that of the guest cluster before it, in
+    /// an image with clusters of `2^cluster_bits` bytes.
     ///
-    /// Data goes on in the next host cluster, where the copied flags are equal, and a backing file goes
-    /// on one cluster further. Nothing comes next after the last number of a cluster, or where the
-    /// offset wouldn't fit 64 bits. Zeros go on after zeros, whatever their clusters, and compressed
-    /// data after compressed data, each cluster of which is read by itself anyway.
+    /// Data continues in the next host cluster with the same copied flag, and a backing file one cluster
+    /// later. Nothing continues the last cluster number, or an offset that wouldn't fit 64 bits. Zeros
+    /// continue zeros, whatever their clusters, and compressed data continues compressed data, since each of
+    /// its clusters is read by itself anyway.
     #[inline]
     pub fn is_consecutive(&self, preceding: &L2Mapping, cluster_bits: u32) -> bool
         requires { IsClusterBits cluster_bits }
@@ -77,20 +77,20 @@ impl L2Mapping {
 }
 
 impl L2Entry {
-    /// The entry of a guest cluster with this mapping, in an image with clusters of `2^cluster_bits`
+    /// Returns the entry of a guest cluster with this mapping, in an image with clusters of `2^cluster_bits`
     /// bytes.
     ///
-    /// Data has its cluster's offset, and bit 63 where it is copied. Backing is 0. Zeros have bit 0, and
-    /// with a cluster its offset, and bit 63 where it is copied. Compressed data has bit 62, and its
-    /// offset in bits 0 to x - 1, where `x = 70 - cluster_bits`. In bits x to 61 it has the number of
-    /// sectors of 512 bytes beyond the first. So an entry does not keep its length: it reads as
-    /// reaching to the end of the last sector.
+    /// Data has its cluster's offset, and bit 63 if it is copied. Backing is 0. Zeros have bit 0; with a
+    /// cluster also its offset, and bit 63 if it is copied. Compressed data has bit 62, its offset in bits 0
+    /// to x - 1, where `x = 70 - cluster_bits`, and the number of sectors of 512 bytes after the first in
+    /// bits x to 61. So an entry doesn't keep the exact length: it reads as if the data reached the end of
+    /// the last sector.
     ///
-    /// Asks for offsets of clusters up to `MAX_OFFSET`, and for `copied` on zeros only with a cluster.
-    /// Asks for compressed data that is shorter than a cluster, at an offset below 2^56 that fits x bits.
+    /// Offsets of clusters must be at most `MAX_OFFSET`, and zeros may be `copied` only with a cluster.
+    /// Compressed data must be shorter than a cluster, at an offset below 2^56 that fits x bits.
     ///
-    /// An offset of 0 says that there is no cluster, but for a copied one of an external data file.
-    /// Elsewhere data in cluster 0 reads back as backing, and zeros with cluster 0 as zeros without.
+    /// Offset 0 means no cluster, except for a copied one of an external data file. Otherwise data in cluster
+    /// 0 reads back as backing, and zeros with cluster 0 as zeros without.
     #[inline]
     pub fn from_mapping(mapping: L2Mapping, cluster_bits: u32) -> L2Entry
         requires placed { spec.IsPlaced cluster_bits mapping }

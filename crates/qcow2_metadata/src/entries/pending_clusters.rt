@@ -1,4 +1,4 @@
-//! Host clusters that were allocated and aren't referred to yet.
+//! Allocated host clusters that nothing refers to yet.
 
 ghost use Rattle.std.specs.Prelude.{◌≡◌};
 
@@ -6,11 +6,10 @@ use crate::ClustersToFreeEntry;
 use qcow2_base::{ClusterCount, Fault, HostCluster};
 use std::marker::Model;
 
-/// Host clusters that were allocated and aren't referred to yet.
+/// Allocated host clusters that nothing refers to yet.
 ///
-/// The value must be spent: by `make_persistent` once something refers to the clusters, by `give_up`
-/// to hand them back, or by handing it on. It can't be dropped, so clusters that are forgotten do not
-/// compile.
+/// The value must be spent: by `make_persistent` once something refers to the clusters, by `give_up` to free
+/// them, or by passing it on. It can't be dropped, so a program that forgets the clusters doesn't compile.
 #[derive(Debug, PartialEq, Eq)]
 pub struct PendingClusters {
     first: HostCluster,
@@ -28,26 +27,26 @@ impl Model for PendingClusters {
 }
 
 impl PendingClusters {
-    /// `count` clusters from the first on, which the caller has allocated.
+    /// Returns `count` clusters from `first` on, which the caller has allocated.
     pub fn new(first: HostCluster, count: ClusterCount) -> PendingClusters
         ensures { result ≡ record { first = first; count = count } }
     {
         PendingClusters { first, count }
     }
 
-    /// The first of the clusters.
+    /// Returns the first of the clusters.
     pub fn cluster(&self) -> HostCluster
         ensures { result ≡ self.now.first }
     {
         self.first
     }
 
-    /// Spends the value: something refers to the clusters now.
+    /// Spends the value, since something now refers to the clusters.
     pub fn make_persistent(self) {
         let PendingClusters { first: _, count: _ } = self;
     }
 
-    /// Spends the value: the clusters are to be freed, since nothing will refer to them.
+    /// Spends the value, and returns the clusters to be freed, since nothing will refer to them.
     #[must_use]
     pub fn give_up(self) -> ClustersToFreeEntry
         ensures { result ≡ self }
@@ -57,13 +56,13 @@ impl PendingClusters {
     }
 }
 
-/// A call that was given pending clusters refused, and hands them back. It can't be dropped: take it apart,
+/// A refusal of a call that got pending clusters, and hands them back. It can't be dropped: take it apart,
 /// and give the clusters up or use them elsewhere.
 #[derive(Debug, PartialEq, Eq)]
 pub struct Refused {
-    /// Why it refused.
+    /// The fault of the refusal.
     pub fault: Fault,
-    /// The pending clusters that it was given.
+    /// The pending clusters that the call got.
     pub pending: Option<PendingClusters>,
 }
 

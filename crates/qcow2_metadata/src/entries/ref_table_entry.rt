@@ -9,7 +9,7 @@ use crate::Header;
 use qcow2_base::{Fault, HostCluster, HostOffset, field};
 use std::marker::Model;
 
-/// An entry of a refcount table: where a refcount block lies, if there is one.
+/// An entry of a refcount table: the place of a refcount block, if there is one.
 ///
 /// Bits 9 to 63 are the offset of the block, 0 for none; bits 0 to 8 are reserved.
 #[derive(Clone, Copy, Debug, PartialEq, Eq)]
@@ -32,7 +32,7 @@ impl RefTableEntry {
     ghost use Rattle.qcow2_base.specs.Bits.{field};
     ghost use Rattle.qcow2_metadata.specs.Entries.RefTableEntry.{ref_fault};
 
-    /// The entry 0: there is no refcount block.
+    /// The entry 0, without a refcount block.
     pub(crate) const NONE: RefTableEntry = RefTableEntry { value: 0 };
 
     #[tactic(auto, using(crate::proofs::EntriesLemmas::ref_entry_is_lawful))]
@@ -47,7 +47,7 @@ impl RefTableEntry {
         }
     }
 
-    /// The offset of the refcount block, if there is one.
+    /// Returns the offset of the refcount block, or `None` without one.
     #[inline]
     pub fn refblock_offset(&self) -> Option<HostOffset>
         ensures { result ≡ offset_unless_zero (512 * field self.now 9 55) }
@@ -58,7 +58,7 @@ impl RefTableEntry {
         }
     }
 
-    /// The reserved bits that are set.
+    /// Returns the reserved bits that are set.
     #[inline]
     pub fn reserved_bits(&self) -> u64
         ensures { result ≡ field self.now 0 9 }

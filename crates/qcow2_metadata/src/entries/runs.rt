@@ -1,4 +1,4 @@
-//! Runs of L2 entries: how the entries go on that read as one with the first.
+//! Runs of L2 entries: the pattern of the entries that continue a first one.
 
 ghost use Rattle.std.specs.Prelude.{◌≡◌, ℕ, ◌+◌, ◌*◌, ◌^◌, ◌<◌, ◌≤◌, ◌↔◌, IsTrue, None, false, true, length, slice_index};
 ghost use Rattle.qcow2_base.specs.Format.{most_l2_entries};
@@ -9,11 +9,11 @@ ghost use Rattle.qcow2_metadata.specs.Entries.Runs.{FollowJust, IsPatternOf, fol
 
 use super::{AtomicL2Entry, L2Entry, TableEntry};
 
-// How many entries are tested together.
+// The number of entries that one test takes together.
 const BLOCK: usize = 16;
 
-/// What the entries of a run have in common: in the bits of the mask a value, which grows by a step from one
-/// entry to the next.
+/// The pattern of a run's entries: their bits in the mask are a value that grows by a step from each entry to
+/// the next.
 #[derive(Clone, Copy)]
 pub(crate) struct RunPattern {
     mask: u64,
@@ -22,11 +22,11 @@ pub(crate) struct RunPattern {
 }
 
 impl RunPattern {
-    /// The pattern of the entries that go on from this one, which is valid.
+    /// Returns the pattern of the entries that continue this one, which must be valid.
     ///
-    /// Compressed entries have bit 62. Entries with a host cluster have the offset of the next one each time,
-    /// and the same zero flag; those without one have no offset. The copied flag makes no difference, but
-    /// where it distinguishes cluster 0 of an external data file from none.
+    /// Compressed entries have bit 62. Entries with a host cluster have the next cluster's offset each time,
+    /// and the same zero flag; those without have no offset. The copied flag makes no difference, except
+    /// where it alone distinguishes cluster 0 of an external data file from no cluster.
     #[inline]
     #[tactic(auto, using(crate::proofs::RunsLemmas::patterns))]
     pub(crate) fn of(entry: L2Entry, cluster_bits: u32, external_data_file: bool) -> RunPattern
@@ -53,13 +53,13 @@ impl RunPattern {
         RunPattern { mask, value, step }
     }
 
-    /// How many entries follow the pattern, of these that come after its first.
+    /// Returns how many of these entries, which come after the pattern's first, follow it.
     #[inline]
     pub(crate) fn count(&self, entries: &[AtomicL2Entry]) -> usize
         requires { self.now.value + length entries.now * self.now.step < 2 ^ 64 }
         ensures { FollowJust self.now entries.now result }
     {
-        // On a mixed disk most runs end at once.
+        // On a fragmented disk most runs end at once.
         if !self.is_followed_by_first(entries) {
             return 0;
         }
@@ -84,8 +84,8 @@ impl RunPattern {
         }
     }
 
-    // Whether the entries from one on up to another follow the pattern. It has no early exit, so that a
-    // compiler tests several at once.
+    // Whether the entries from index `first` to before `end` follow the pattern. Has no early exit, so that
+    // the compiler can test several at once.
     fn all_follow(&self, entries: &[AtomicL2Entry], first: usize, end: usize) -> bool
         requires fits { self.now.value + length entries.now * self.now.step < 2 ^ 64 }
         requires order { first ≤ end }
@@ -102,7 +102,7 @@ impl RunPattern {
         all
     }
 
-    // How many entries follow the pattern, where those before the first do.
+    // Returns how many entries follow the pattern, if those before `first` do.
     fn count_from(&self, entries: &[AtomicL2Entry], first: usize) -> usize
         requires fits { self.now.value + length entries.now * self.now.step < 2 ^ 64 }
         requires within { first ≤ length entries.now }

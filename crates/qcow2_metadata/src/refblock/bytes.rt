@@ -1,4 +1,4 @@
-//! The bytes of a block in memory that the caller has.
+//! Copies a block to bytes in the caller's memory.
 
 ghost use Rattle.std.specs.Prelude.{◌≡◌, ◌^◌, length};
 ghost use Rattle.qcow2_base.specs.Storage.{image_of};
@@ -9,7 +9,7 @@ use super::RefBlock;
 use crate::pieces::{PIECE_BYTES, Packed};
 
 impl RefBlock {
-    /// Puts the bytes that the block takes in an image into these, which are as many as a cluster has.
+    /// Stores the block as its bytes in an image. There must be as many as a cluster has.
     pub fn copy_to_bytes(&self, bytes: &mut [u8])
         requires { length bytes.old ≡ 2 ^ self.now.geometry.cluster_bits }
         ensures bytes { Stand ((block_layout self.now.geometry).bytes_of self.now.numbers) (length bytes.new)

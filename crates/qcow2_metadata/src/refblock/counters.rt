@@ -1,4 +1,4 @@
-//! The counters of a block in memory: one number each, in the smallest integers that hold them.
+//! The refcounts of a block in memory: one integer each, of the smallest type that fits.
 
 ghost use Rattle.std.specs.Prelude.{◌≡◌, ℕ, ◌*◌, ◌/◌, ◌%◌, ◌+◌, ◌^◌, ◌<◌, ◌≤◌, IfOk, length, replicate, slice_index, slice_set};
 ghost use Rattle.qcow2_metadata.specs.Pieces.{piece_size};
@@ -10,7 +10,7 @@ use super::packing::{pack_narrow, pack_wide, unpack_narrow, unpack_wide};
 use crate::pieces::PIECE_BYTES;
 use std::alloc::{AllocError, Global};
 
-/// A list of counters: in `U8` they have 1, 2, 4 or 8 bits, and in the others as many as the integers.
+/// A list of refcounts: of 1, 2, 4 or 8 bits in `U8`, and of as many bits as the integers in the others.
 #[derive(Debug, Drop)]
 pub(super) enum Counters {
     U8(Vec<u8>),
@@ -55,7 +55,7 @@ impl Counters {
         }
     }
 
-    // Puts a number of the counters' width in the place of one.
+    // Replaces the refcount at an index by one that fits its width.
     #[inline]
     pub(super) fn set(&mut self, index: usize, counter: u64)
         requires index { index < length (kept_counters self.old) }
@@ -71,7 +71,7 @@ impl Counters {
         }
     }
 
-    // Puts the counters of a piece of the block, of which these are the bytes, in their places.
+    // Reads the refcounts of a piece of the block from its bytes.
     #[tactic(auto, using(crate::proofs::RefblockLemmas::narrow_length))]
     pub(super) fn unpack(&mut self, order: u32, piece: usize, bytes: &[u8])
         requires kind { IsOfOrder order self.old }
@@ -95,7 +95,7 @@ impl Counters {
         }
     }
 
-    // Puts the bytes of a piece of the block into the buffer, which is as long as that piece.
+    // Stores the bytes of a piece of the block in the buffer, which must have that piece's length.
     #[tactic(auto, using(crate::proofs::RefblockLemmas::narrow_within))]
     pub(super) fn pack(&self, order: u32, piece: usize, buffer: &mut [u8])
         requires kind { IsOfOrder order self.now }

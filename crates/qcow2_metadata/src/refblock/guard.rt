@@ -1,4 +1,4 @@
-//! The guard of refcount blocks: permission to change counters.
+//! The guard of refcount blocks, which changes refcounts.
 
 ghost use Rattle.std.specs.Prelude.{◌≡◌, ◌<◌, ◌==◌, length, slice_index};
 ghost use Rattle.qcow2_metadata.specs.Refblock.Guard.{IsSameBlock, guarded_block, Changes, Steps, Increment, Decrement, as_counter};
@@ -6,14 +6,14 @@ ghost use Rattle.qcow2_metadata.specs.Refblock.Guard.{IsSameBlock, guarded_block
 use super::RefBlock;
 use qcow2_base::Fault;
 
-/// Permission to change a block's counters. While it is held nobody else sees the block.
+/// A guard for changes of a block's refcounts. Nobody else can access the block while it exists.
 #[derive(Debug, Drop)]
 pub struct RefBlockWriteGuard<'a> {
     pub(super) block: &'a mut RefBlock,
 }
 
 impl RefBlockWriteGuard<'_> {
-    /// Whether the cluster has no reference that the counter at an index is for.
+    /// Whether the refcount at an index is 0.
     #[inline]
     pub fn is_zero(&self, index: usize) -> bool
         requires { index < length (guarded_block self.now).numbers }
@@ -22,9 +22,8 @@ impl RefBlockWriteGuard<'_> {
         self.block.is_zero(index)
     }
 
-    /// Puts a counter in the place of the one at an index, and returns that. The block then counts as
-    /// modified. A counter past the greatest number that the block's counters hold is refused, and nothing
-    /// has changed.
+    /// Sets the refcount at an index, and returns the old one. The block then counts as modified. Refuses a
+    /// refcount past the greatest number of its width (fault 30), and then changes nothing.
     pub fn set(&mut self, index: usize, counter: u64) -> Result<u64, Fault>
         requires { index < length (guarded_block self.old).numbers }
         ensures same_block { IsSameBlock self.old self.new }
@@ -40,8 +39,8 @@ impl RefBlockWriteGuard<'_> {
         Ok(before)
     }
 
-    /// Counts one reference more, and returns how many there were. The block then counts as modified. A
-    /// counter at the greatest number that it holds is refused, and nothing has changed.
+    /// Adds 1 to the refcount at an index, and returns the old one. The block then counts as modified.
+    /// Refuses a refcount at the greatest number of its width (fault 30), and then changes nothing.
     pub fn increment(&mut self, index: usize) -> Result<u64, Fault>
         requires { index < length (guarded_block self.old).numbers }
         ensures same_block { IsSameBlock self.old self.new }
@@ -55,8 +54,8 @@ impl RefBlockWriteGuard<'_> {
         Ok(before)
     }
 
-    /// Counts one reference less, and returns how many there were. The block then counts as modified. A
-    /// counter at 0 is refused, and nothing has changed.
+    /// Subtracts 1 from the refcount at an index, and returns the old one. The block then counts as modified.
+    /// Refuses a refcount of 0 (fault 30), and then changes nothing.
     pub fn decrement(&mut self, index: usize) -> Result<u64, Fault>
         requires { index < length (guarded_block self.old).numbers }
         ensures same_block { IsSameBlock self.old self.new }

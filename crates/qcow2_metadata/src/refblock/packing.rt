@@ -1,4 +1,4 @@
-//! Counters as they are in an image: several in a byte, or several bytes each.
+//! Refcounts as an image has them: several in a byte, or of several bytes each.
 
 ghost use Rattle.std.specs.Prelude.{◌≡◌, ℕ, ◌+◌, ◌-◌, ◌*◌, ◌/◌, ◌%◌, ◌^◌, ◌<◌, ◌≤◌, [], ◌∷◌, length, map, refl, slice_index};
 ghost use Rattle.std.proofs.Common.{lit≤};
@@ -9,9 +9,9 @@ ghost use Rattle.qcow2_metadata.specs.Refblock.Packing.{counters_at, from_digits
 
 use qcow2_base::{OnDiskStruct, read_be, write_be};
 
-/// An integer of whole bytes that holds a counter of just its width.
+/// An integer of whole bytes with exactly the width of a refcount.
 pub(super) trait WideCounter: OnDiskStruct + Copy + Drop {
-    /// By the refcount order of its width.
+    /// The refcount order of this width.
     ghost order: { ℕ };
 
     ghost number: { Self → ℕ };
@@ -59,7 +59,7 @@ impl WideCounter for u64 {
     ghost layout_is = { λ value. refl };
 }
 
-// Puts the counters that are in the bytes into the list, which has as many.
+// Reads the refcounts in the bytes into the list, which must have as many.
 pub(super) fn unpack_wide<T: WideCounter>(list: &mut [T], bytes: &[u8])
     requires { T.ON_DISK_SIZE * length list.old ≡ length bytes.now }
     ensures { map T.number list.new ≡ counters_at T.order (image_of bytes.now) 0 (length list.old) }
@@ -69,7 +69,7 @@ pub(super) fn unpack_wide<T: WideCounter>(list: &mut [T], bytes: &[u8])
     }
 }
 
-// Puts the bytes of counters into the buffer, from those of counter `first` on.
+// Stores the bytes of refcounts in the buffer, from those of refcount `first` on.
 pub(super) fn pack_wide<T: WideCounter>(list: &[T], first: usize, buffer: &mut [u8])
     requires whole { length buffer.old % T.ON_DISK_SIZE ≡ 0 }
     requires within { T.ON_DISK_SIZE * first + length buffer.old ≤ T.ON_DISK_SIZE * length list.now }
@@ -82,7 +82,7 @@ pub(super) fn pack_wide<T: WideCounter>(list: &[T], first: usize, buffer: &mut [
     }
 }
 
-// Puts the counters of `2^order` bits that are in the bytes into the list, which has as many.
+// Reads the refcounts of `2^order` bits in the bytes into the list, which must have as many.
 #[tactic(auto, using(crate::proofs::PackingLemmas::counters_are_bytes))]
 pub(super) fn unpack_narrow(list: &mut [u8], order: u32, bytes: &[u8])
     requires order { order ≤ 3 }
@@ -97,7 +97,7 @@ pub(super) fn unpack_narrow(list: &mut [u8], order: u32, bytes: &[u8])
     }
 }
 
-// The same for an order and how many counters a byte has.
+// Does so for an order and its number of refcounts in a byte.
 fn unpack_bytes<const ORDER: u32, const PER: usize>(list: &mut [u8], bytes: &[u8])
     requires order { ORDER ≤ 2 }
     requires per { PER ≡ per_byte ORDER }
@@ -110,7 +110,7 @@ fn unpack_bytes<const ORDER: u32, const PER: usize>(list: &mut [u8], bytes: &[u8
     }
 }
 
-// The counters that are in a byte, the first one in the lowest bits.
+// Returns the refcounts in a byte, the first one in the lowest bits.
 #[inline]
 fn unpack_byte<const ORDER: u32, const PER: usize>(byte: u8) -> [u8; PER]
     requires order { ORDER ≤ 2 }
@@ -125,7 +125,7 @@ fn unpack_byte<const ORDER: u32, const PER: usize>(byte: u8) -> [u8; PER]
     counters
 }
 
-// Puts the bytes of counters into the buffer, from byte `first` on.
+// Stores the bytes of refcounts in the buffer, from byte `first` on.
 pub(super) fn pack_narrow(list: &[u8], order: u32, first: usize, buffer: &mut [u8])
     requires order { order ≤ 3 }
     requires within { per_byte order * (first + length buffer.old) ≤ length list.now }
@@ -142,7 +142,7 @@ pub(super) fn pack_narrow(list: &[u8], order: u32, first: usize, buffer: &mut [u
     }
 }
 
-// The same for an order and how many counters a byte has.
+// Does so for an order and its number of refcounts in a byte.
 fn pack_bytes<const ORDER: u32, const PER: usize>(list: &[u8], first: usize, buffer: &mut [u8])
     requires order { ORDER ≤ 2 }
     requires per { PER ≡ per_byte ORDER }
@@ -158,7 +158,7 @@ fn pack_bytes<const ORDER: u32, const PER: usize>(list: &[u8], first: usize, buf
     }
 }
 
-// The byte that these counters take, the first one in the lowest bits.
+// Returns the byte of these refcounts, the first one in the lowest bits.
 #[inline]
 fn pack_byte<const ORDER: u32, const PER: usize>(counters: &[u8]) -> u8
     requires order { ORDER ≤ 2 }

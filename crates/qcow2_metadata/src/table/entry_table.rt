@@ -1,4 +1,4 @@
-//! The one struct that all tables are: a list of entries of one kind.
+//! The struct of all tables: a list of entries of one kind.
 
 ghost use Rattle.std.specs.Prelude.{◌≡◌, ℕ, Bool, true, false, ◌≢◌, ◌+◌, ◌*◌, ◌^◌, ◌<◌, ◌≤◌, ◌↔◌, IfErr, IfOk, IsOkUnless, IsTrue, OnOk, length, map, slice_index, Some, None};
 ghost use Rattle.std.proofs.Common.{refl};
@@ -21,15 +21,15 @@ use qcow2_base::{Fault, HostCluster, HostOffset, Storage};
 use std::alloc::{AllocError, Global};
 use std::marker::Model;
 
-/// What sets one kind of table apart from the others.
+/// The properties of one kind of table.
 pub trait TableKind: TableEntry + Copy {
-    /// The entry as callers get it.
+    /// The type of the entries for callers.
     type Entry: TableEntry + Copy;
 
-    /// What kind of table it is, for people.
+    /// The name of this kind of table, for people.
     const NAME: &'static str;
 
-    /// How many entries a table of this kind may have.
+    /// The greatest number of entries.
     const MAX_ENTRIES: usize;
 
     ghost MAX_ENTRIES: { ℕ };
@@ -37,19 +37,19 @@ pub trait TableKind: TableEntry + Copy {
     /// By cluster_bits: whether a table may have that many entries in memory.
     ghost has_valid_count: { ℕ → ℕ → Bool };
 
-    /// The entry 0, which is valid under each cluster size.
+    /// Returns the entry 0, which is valid under each cluster size.
     fn cleared() -> Self
         ensures number { Self.plain result ≡ 0 }
         ensures lawful { (cb : ℕ) → Self.fault_of cb 0 ≡ None };
 
-    /// The entry as callers get it.
+    /// Returns the entry in the type for callers.
     fn entry(self) -> Self::Entry
         ensures { Self.Entry.plain result ≡ Self.plain self };
 
     ghost few_entries: { MAX_ENTRIES ≤ most_entries_in_memory };
 }
 
-/// A table of entries of one kind. Clauses see it as what it says.
+/// A table of entries of one kind. In contracts it is its `TableState`.
 #[derive(Debug, Drop)]
 pub struct EntryTable<E: TableKind> {
     entries: Vec<E>,
@@ -77,7 +77,7 @@ impl<E: TableKind> Model for EntryTable<E> {
         t.cluster_bits t.placement.cluster (map E.plain t.entries.items) };
 }
 
-// The entries, and then entries 0 up to a count.
+// Returns the entries, padded with entries 0 to `count`.
 #[tactic(auto, using(crate::proofs::TableLemmas::paddings))]
 fn padded<E: TableKind>(alloc: Global, entries: &[E], count: usize) -> Result<Vec<E>, AllocError>
     requires { length entries.now ≤ count }
@@ -94,8 +94,8 @@ fn padded<E: TableKind>(alloc: Global, entries: &[E], count: usize) -> Result<Ve
     Ok(list)
 }
 
-// Each number fits 64 bits, since it is read as one. What is read is let go, so a compiler leaves the
-// loop out.
+// Proves that each number fits 64 bits, since `to_plain` returns it as a `u64`. The compiler drops the loop,
+// as it uses no result.
 #[inline]
 fn numbers_fit<E: TableEntry>(entries: &[E])
     ensures { All (λ v. v < 2 ^ 64) (map E.plain entries.now) }
@@ -114,7 +114,7 @@ impl<E: TableKind> EntryTable<E> {
         index < self.entries()
     }
 
-    // A table of these entries and then zeros, for an image with this header.
+    // Returns a table of `entries` entries, these and then zeros, for an image with this header.
     pub(super) fn grown(&self, entries: usize, header: &Header) -> Result<Self, Fault>
         requires cluster_bits { header.now.v2.cluster_bits ≡ self.now.geometry.cluster_bits }
         requires longer { length self.now.numbers ≤ entries }
@@ -129,7 +129,7 @@ impl<E: TableKind> EntryTable<E> {
         Ok(Self::from_data(list, header))
     }
 
-    // The entries in order, which are valid.
+    // Returns the entries in order; all are valid.
     #[inline]
     pub(super) fn as_slice(&self) -> &[E]
         ensures numbers { map E.plain result.now ≡ self.now.numbers }
@@ -139,7 +139,7 @@ impl<E: TableKind> EntryTable<E> {
         self.entries.as_slice()
     }
 
-    // A table with these entries in the places of its own, and the same flag, that has no cluster.
+    // Returns a table with these entries instead of its own, the same modified flag, and no cluster.
     pub(super) fn with_entries(&self, entries: Vec<E>) -> Self
         requires count { length entries.items ≡ length self.now.numbers }
         requires valid { first_fault (E.fault_of self.now.geometry.cluster_bits)
@@ -159,8 +159,8 @@ impl<E: TableKind> EntryTable<E> {
         }
     }
 
-    // Reads the entries that are in the image from an offset on in the places of its own, as many. The table
-    // then has no cluster, and counts as modified.
+    // Replaces all entries by those of the image from an offset on. The table then has no cluster, and counts
+    // as modified.
     pub(super) fn read_over<S: Storage>(
         &mut self,
         image: &mut S,
@@ -189,7 +189,7 @@ impl<E: TableKind> EntryTable<E> {
         read
     }
 
-    // The entry at an index that isn't past the end, as callers get it.
+    // Returns the entry at an index in the type for callers. The index must be in bounds.
     #[inline]
     #[tactic(auto, using(crate::proofs::TableLemmas::items))]
     pub(super) fn entry_within(&self, index: usize) -> E::Entry
@@ -200,14 +200,14 @@ impl<E: TableKind> EntryTable<E> {
         self.entries[index].entry()
     }
 
-    // Puts a valid entry in the place of another, and returns that one.
+    // Replaces the entry at an index by a valid one, and returns the old one.
     pub(super) fn replace_entry(&mut self, index: usize, entry: E) -> E
         requires index { index < length self.old.numbers }
         requires valid { E.fault_of self.old.geometry.cluster_bits (E.plain entry) ≡ None }
         ensures before { E.plain result ≡ slice_index self.old.numbers index }
         ensures edit { self.new ≡ with_number self.old index (E.plain entry) }
     {
-        // It fits 64 bits, since it is read as a number of these.
+        // Proves that its number fits 64 bits.
         let _ = entry.to_plain();
         self.placement.modified = true;
         std::mem::replace(&mut self.entries[index], entry)

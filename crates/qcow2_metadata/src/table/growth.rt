@@ -1,5 +1,5 @@
-//! Refcount tables pay for their own growth: a table that moves to more clusters needs counters for
-//! these. So it takes spare entries along for new refcount blocks, which need counters too.
+//! Growth of refcount tables. A table that moves to more clusters needs refcounts for these, so it grows with
+//! spare entries for new refcount blocks, which need refcounts too.
 
 ghost use Rattle.std.specs.Prelude.{◌≡◌, ◌+◌, ◌-◌, ◌^◌, ◌<◌, ◌≤◌, IfSome, max};
 ghost use Rattle.std.specs.Int.{next_multiple_of};
@@ -9,21 +9,21 @@ ghost use Rattle.qcow2_metadata.specs.Table.Growth.{growth_of, least_spare as le
 use super::TableKind;
 use crate::{Header, RefTableEntry};
 
-/// Counts the numbers of spare blocks that `least_spare` tries.
+/// The count of the numbers of spare blocks that `least_spare` tries.
 #[derive(Debug, Drop)]
 pub struct Turns {
     count: usize,
 }
 
 impl Turns {
-    /// No number was tried yet.
+    /// Returns a count of 0.
     pub fn new() -> Turns
         ensures { result.count ≡ 0 }
     {
         Turns { count: 0 }
     }
 
-    /// How many numbers were tried.
+    /// Returns how many numbers were tried.
     pub fn count(&self) -> usize
         ensures { result ≡ self.now.count }
     {
@@ -38,8 +38,8 @@ impl Turns {
     }
 }
 
-// How many entries a table of `len` entries has once it is to hold an index and spare entries after it:
-// whole clusters of them.
+// Returns the number of entries of a table of `len` entries that grows to hold `index` and spare entries
+// after it, rounded up to whole clusters.
 pub(super) fn entries_with(len: usize, index: usize, spare: usize, cluster_entries: usize) -> usize
     requires len { len < 2 ^ 60 }
     requires index { index < 2 ^ 60 }
@@ -53,13 +53,12 @@ pub(super) fn entries_with(len: usize, index: usize, spare: usize, cluster_entri
         .next_multiple_of(cluster_entries)
 }
 
-/// The least number of spare entries that a refcount table of `len` entries takes along when it grows to
-/// hold an index. As many refcount blocks count all clusters of the grown table, and their own. There is none
-/// where the table would have too many entries. The index is one that a table can have, and no number was
-/// tried before.
+/// Returns the least number of spare entries with which a refcount table of `len` entries must grow to hold
+/// `index`: that many new refcount blocks count all clusters of the grown table and their own. Returns `None`
+/// if the table would have too many entries. The index must be one that a table can have, and `turns` new.
 ///
-/// Tries at most as many numbers as the least is, also where the table would have too many entries, and
-/// takes no memory.
+/// Tries at most as many numbers as that least one, even if the table would have too many entries, and
+/// allocates nothing.
 #[tactic(auto, using(crate::proofs::GrowthLemmas::IsRoomy_of))]
 pub fn least_spare(len: usize, index: usize, header: &Header, turns: &mut Turns) -> Option<usize>
     requires index { index < most_reftable_entries }

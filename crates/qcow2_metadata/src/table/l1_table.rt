@@ -1,4 +1,4 @@
-//! L1 tables: where the L2 tables lie.
+//! L1 tables: the places of the L2 tables.
 
 ghost use Rattle.std.specs.Prelude.{◌≡◌, ◌+◌, ◌*◌, ◌^◌, ◌<◌, length, true, Ok, Err, IfSome, MatchOption, slice_index};
 ghost use Rattle.std.proofs.Common.{lit≤};
@@ -41,10 +41,10 @@ impl TableKind for L1Entry {
 }
 
 impl EntryTable<L1Entry> {
-    /// A copy of the table that holds an index: the same entries, and then zeros, in as few whole
-    /// clusters as that takes. It has no cluster, and counts as modified.
+    /// Returns a longer copy of the table that holds an index: the same entries, and then zeros, in the
+    /// fewest whole clusters. It has no cluster, and counts as modified.
     ///
-    /// Refuses to grow past the most entries that an L1 table may have. The table itself stays.
+    /// Refuses to grow past the greatest number of entries of an L1 table (fault 28). The table itself stays.
     pub fn clone_and_grow(&self, at_least_index: usize, header: &Header) -> Result<L1Table, Fault>
         requires { header.now.v2.cluster_bits ≡ self.now.geometry.cluster_bits }
         ensures { GrowsTo (grown_count self.now at_least_index) most_l1_entries self.now.numbers header.now
@@ -61,8 +61,8 @@ impl EntryTable<L1Entry> {
         self.grown(entries, header)
     }
 
-    /// Says of the entry at an index whether its L2 table has just one reference: bit 63 is then set or
-    /// clear. All else of the entry stays, also where it names no table. The table then counts as modified.
+    /// Sets or clears the copied flag, bit 63, of the entry at an index: whether its L2 table has exactly one
+    /// reference. All else of the entry stays, even if it names no table. The table then counts as modified.
     pub fn set_copied(&mut self, index: usize, is_copied: bool)
         requires { index < length self.old.numbers }
         ensures { self.new ≡ with_number self.old index
@@ -72,10 +72,10 @@ impl EntryTable<L1Entry> {
         self.replace_entry(index, entry);
     }
 
-    /// Enters an L2 table, which thereby has its one reference, and spends the pending value for its
+    /// Makes the entry at an index the only reference to an L2 table, and spends the pending value of its
     /// cluster, if there is one. The table then counts as modified.
     ///
-    /// An L2 table with no cluster is refused: the pending value comes back, and nothing has changed.
+    /// Refuses an L2 table without a cluster (fault 23): hands the pending value back, and changes nothing.
     pub fn enter_l2_table(
         &mut self,
         index: usize,

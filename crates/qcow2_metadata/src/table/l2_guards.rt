@@ -1,4 +1,4 @@
-//! Guards of L2 tables: permission to change one, and to read compressed data that one refers to.
+//! Guards of L2 tables: one changes mappings, the other protects compressed data while it is read.
 
 ghost use Rattle.std.specs.Prelude.{◌≡◌, ◌*◌, ◌^◌, ◌<◌, IfOk, IfSome, IsOkAnd, length, option_map, slice_index, true, false};
 ghost use Rattle.qcow2_metadata.specs.Table.L2Guards.{MakesEdit, is_mappable, to_data, to_zeros};
@@ -14,7 +14,7 @@ use crate::{AtomicL2Entry, ClustersToFreeEntry, L2Entry, L2Mapping, PendingClust
 use qcow2_base::{ClusterCount, Fault, GuestCluster, HostCluster, HostOffset};
 use std::num::NonZero;
 
-/// Permission to change an L2 table's mappings. While it is held nobody else sees the table.
+/// A guard for changes of an L2 table's mappings. Nobody else can access the table while it exists.
 #[derive(Debug, Drop)]
 pub struct L2TableWriteGuard<'a> {
     pub(super) table: &'a mut L2Table,
@@ -24,7 +24,7 @@ impl L2TableWriteGuard<'_> {
     ghost use Rattle.qcow2_metadata.specs.Table.L2Guards.{IsSameTable, guarded_range, guarded_table};
     ghost use Rattle.qcow2_metadata.specs.Table.L2Table.{compressed_range};
 
-    /// What a guest cluster reads as, as `L2Table::get_mapping` says it.
+    /// Returns the mapping of a guest cluster, as `L2Table::get_mapping` does.
     pub fn get_mapping(&self, guest_cluster: GuestCluster) -> Result<L2Mapping, Fault>
         requires { guest_cluster.0 * 2 ^ (guarded_table self.now).geometry.cluster_bits < 2 ^ 64 }
         ensures mapping { IsOkAnd result (λ found.
@@ -34,8 +34,8 @@ impl L2TableWriteGuard<'_> {
         self.table.get_mapping(guest_cluster)
     }
 
-    /// Where the compressed data of a guest cluster lies, as `L2Table::lock_compressed_read` says it. The
-    /// mappings can't be changed while the result is held.
+    /// Returns the place of a guest cluster's compressed data, as `L2Table::lock_compressed_read` does. The
+    /// mappings can't change while the result exists.
     pub fn compressed_read_guard(
         &self,
         guest_cluster: GuestCluster,
@@ -48,12 +48,12 @@ impl L2TableWriteGuard<'_> {
         self.table.lock_compressed_read(guest_cluster)
     }
 
-    /// Maps the guest cluster at an index to data in a host cluster that has no other reference: the entry
-    /// is then copied. Hands back all host clusters that the entry referred to, but nothing where that is
-    /// this one alone, which it goes on referring to. The table then counts as modified.
+    /// Maps the guest cluster at an index to data in a host cluster without another reference, and sets the
+    /// copied flag. Returns all host clusters that the entry referred to, or `None` if that was this one
+    /// alone, which stays referenced. The table then counts as modified.
     ///
-    /// The host cluster's offset is at most `MAX_OFFSET`, and it isn't cluster 0, but where guest data lies
-    /// in an external data file. Pending clusters that are handed in are that cluster alone, and are spent.
+    /// The host cluster's offset must be at most `MAX_OFFSET`, and it must not be cluster 0, unless guest
+    /// data lies in an external data file. Pending clusters must be that cluster alone, and are spent.
     #[must_use]
     pub fn map_cluster(
         &mut self,
@@ -84,10 +84,9 @@ impl L2TableWriteGuard<'_> {
         Some(freed)
     }
 
-    /// Makes the guest cluster at an index read as zeros. With `keep_allocation` an entry that refers to a
-    /// host cluster, and isn't compressed, goes on referring to it, and its copied flag stays. Hands back all
-    /// host clusters that the entry doesn't refer to any more. The table then counts as modified. Always
-    /// returns `Ok`.
+    /// Maps the guest cluster at an index to zeros. With `keep_allocation` an entry with a host cluster,
+    /// unless compressed, keeps it with its copied flag. Returns all host clusters that the entry no longer
+    /// refers to. The table then counts as modified. Always returns `Ok`.
     #[must_use]
     pub fn zero_cluster(
         &mut self,
@@ -111,9 +110,8 @@ impl L2TableWriteGuard<'_> {
         Ok(self.allocation_of(before))
     }
 
-    /// Takes the mapping at an index away: the guest cluster has no data then. Hands back all host
-    /// clusters that the entry referred to, or nothing where it referred to none. The table then
-    /// counts as modified.
+    /// Removes the mapping at an index. Returns all host clusters that the entry referred to, or `None` if it
+    /// referred to none. The table then counts as modified.
     #[must_use]
     pub fn discard_cluster(&mut self, index: usize) -> Option<ClustersToFreeEntry>
         requires { index < length (guarded_table self.old).numbers }
@@ -126,9 +124,9 @@ impl L2TableWriteGuard<'_> {
         self.allocation_of(before.get())
     }
 
-    /// Says of the entry at an index whether its host cluster has just one reference: bit 63 is then set or
-    /// clear, and all else of the entry stays. The table then counts as modified. A compressed entry can't
-    /// have bit 63 set. In an external data file offset 0 is that of a cluster only where it is set.
+    /// Sets or clears the copied flag, bit 63, of the entry at an index: whether its host cluster has exactly
+    /// one reference. All else of the entry stays. The table then counts as modified. The flag must not be
+    /// set in a compressed entry. In an external data file offset 0 is cluster 0 only with the flag.
     pub fn set_copied(&mut self, index: usize, is_copied: bool)
         requires index { index < length (guarded_table self.old).numbers }
         requires standard { is_copied ≡ true →
@@ -150,8 +148,8 @@ impl L2TableWriteGuard<'_> {
     }
 }
 
-/// Where the compressed data of a guest cluster lies. The table can't change while this is held, so the data
-/// stays referred to.
+/// The place of a guest cluster's compressed data. The table can't change while this exists, so the data
+/// keeps its reference.
 #[derive(Debug, Drop)]
 pub struct CompressedClusterReadGuard<'a> {
     pub(super) table: &'a L2Table,
@@ -163,7 +161,7 @@ impl CompressedClusterReadGuard<'_> {
     ghost use Rattle.std.specs.Int.NonZero.{non_zero_u64_get};
     ghost use Rattle.qcow2_metadata.specs.Table.L2Guards.{guarded_range};
 
-    /// Where the data begins in the image.
+    /// Returns the offset of the data in the image.
     #[inline]
     pub fn offset(&self) -> HostOffset
         ensures { result.0 ≡ (guarded_range self.now).0 }
@@ -171,7 +169,7 @@ impl CompressedClusterReadGuard<'_> {
         self.offset
     }
 
-    /// At most how many bytes the data takes.
+    /// Returns the greatest length of the data, in bytes.
     #[inline]
     pub fn length(&self) -> NonZero<u64>
         ensures { non_zero_u64_get result ≡ (guarded_range self.now).1 }

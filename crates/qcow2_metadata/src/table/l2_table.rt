@@ -1,4 +1,4 @@
-//! L2 tables: what the clusters of a part of the guest's disk read as.
+//! L2 tables: the mappings of the guest clusters of a part of the disk.
 
 ghost use Rattle.std.specs.Prelude.{◌≡◌, ℕ, None, ◌-◌, ◌*◌, ◌^◌, ◌==◌, ◌<◌, ◌≢◌, IfErr, IfOk, IsOkAnd, IsOkUnless, OnOk, length, map, replicate, true};
 ghost use Rattle.std.proofs.Common.{lit≤};
@@ -21,7 +21,7 @@ use crate::{AtomicL2Entry, Header, L2Entry, L2Mapping};
 use qcow2_base::{ClusterCount, Fault, GuestCluster, HostCluster, Storage};
 use std::alloc::{AllocError, Global};
 
-/// A table of L2 entries, one for each guest cluster of its part of the disk: it fills one cluster.
+/// A table of L2 entries, one for each guest cluster of its part of the disk. It fills one cluster.
 pub type L2Table = EntryTable<AtomicL2Entry>;
 
 impl TableKind for AtomicL2Entry {
@@ -46,7 +46,7 @@ impl TableKind for AtomicL2Entry {
     ghost few_entries = { lit≤ tt };
 }
 
-// The entries where a second table has them too.
+// Returns the entries for a second table that has them too.
 fn shared_entries(
     alloc: Global,
     entries: &[AtomicL2Entry],
@@ -70,8 +70,8 @@ impl EntryTable<AtomicL2Entry> {
     ghost use Rattle.qcow2_metadata.specs.Table.L2Guards.{IsTableGuard, guarded_range, references};
     ghost use Rattle.qcow2_metadata.specs.Table.L2Table.{IsMappedRun, compressed_range};
 
-    /// A table of an image with this header in which no cluster has data. It has no cluster, and
-    /// counts as modified. Fails only where memory runs out.
+    /// Returns an empty table for an image with this header, which maps nothing. It has no cluster, and
+    /// counts as modified. Fails only if memory runs out.
     #[tactic(auto, using(crate::proofs::TableLemmas::no_fault_in_copies))]
     pub fn new_cleared(alloc: Global, header: &Header) -> Result<L2Table, Fault>
         ensures fault { IsOkUnless result Fault.NoMemory }
@@ -83,8 +83,7 @@ impl EntryTable<AtomicL2Entry> {
         Ok(L2Table::from_data(entries, header))
     }
 
-    /// Whether guest data lies in an external data file, by the header that the table was made or loaded
-    /// with.
+    /// Whether guest data lies in an external data file, by the header of the table's creation or load.
     #[inline]
     pub fn external_data_file(&self) -> bool
         ensures { result ≡ self.now.geometry.external_data_file }
@@ -92,8 +91,8 @@ impl EntryTable<AtomicL2Entry> {
         self.external_data_file
     }
 
-    /// What a guest cluster reads as by its entry in this table. The cluster's offset must fit 64 bits.
-    /// Always returns a mapping.
+    /// Returns the mapping of a guest cluster by its entry in this table. The cluster's offset must fit 64
+    /// bits. Always returns `Ok`.
     #[inline]
     pub fn get_mapping(&self, guest_cluster: GuestCluster) -> Result<L2Mapping, Fault>
         requires { guest_cluster.0 * 2 ^ self.now.geometry.cluster_bits < 2 ^ 64 }
@@ -105,10 +104,9 @@ impl EntryTable<AtomicL2Entry> {
         entry.into_mapping(guest_cluster, cluster_bits, self.external_data_file())
     }
 
-    /// How many guest clusters, from one on, read on as one by their entries in this table, to its end
-    /// at most. They are data in one host cluster after another, zeros in one after another, zeros
-    /// without any, compressed data, or what the backing file has. Whether host clusters are copied makes
-    /// no difference.
+    /// Returns the number of guest clusters, from this one on, that form one run by their entries in this
+    /// table, up to its end: data in consecutive host clusters, zeros in consecutive ones, zeros without host
+    /// clusters, compressed data, or the backing file's data. Copied flags make no difference.
     pub fn run_length(&self, guest_cluster: GuestCluster) -> ClusterCount
         ensures { IsMappedRun self.now guest_cluster.0 result.0 }
     {
@@ -119,13 +117,14 @@ impl EntryTable<AtomicL2Entry> {
         ClusterCount(1 + pattern.count(&entries[index + 1..end]) as u64)
     }
 
-    /// Reads the L2 table that begins with a cluster of the image into this one, as `load` does, but takes no
-    /// memory. It then has that cluster and doesn't count as modified. The header is of the image that the
+    /// Reads the L2 table at a cluster of the image over this one, as `load` does, but allocates nothing. The
+    /// table then has that cluster and doesn't count as modified. The header must be of the image that the
     /// table was made or loaded for.
     ///
     /// Refuses an end past 2^56 (21), then the first entry with a reserved bit (18) or an unaligned offset
-    /// (19), and reads no piece after that entry's. After any fault but 21 its entries may be any valid ones,
-    /// it has no cluster, and counts as modified; after 21 it stays. Changes no byte, whatever it returns.
+    /// (19), and reads nothing after the piece of that entry. Fault 21 leaves the table unchanged. Any other
+    /// fault may leave any valid entries; the table then has no cluster, and counts as modified. Never
+    /// changes a byte.
     pub fn reload<S: Storage>(
         &mut self,
         image: &mut S,
@@ -149,8 +148,8 @@ impl EntryTable<AtomicL2Entry> {
         Ok(())
     }
 
-    /// Writes the table to the image, as `write` does, if it counts as modified. The table must then
-    /// begin with the given cluster. A table that doesn't count so is left alone, and so is the image.
+    /// Writes the table to the image, as `write` does, if it counts as modified. Its cluster must then be the
+    /// given one. Else changes neither table nor image.
     pub fn write_if_modified<S: Storage>(
         &mut self,
         image: &mut S,
@@ -160,7 +159,7 @@ impl EntryTable<AtomicL2Entry> {
         ensures { WritesIfModified S.state (layout_of_table l2_kind self.old) result self.old self.new
             image.old image.new }
     {
-        // The caller's word for the cluster is in the contract alone.
+        // Only the contract uses the cluster.
         let _ = cluster;
         let mut placement = self.placement;
         let written = placement.write_if_modified(
@@ -172,8 +171,9 @@ impl EntryTable<AtomicL2Entry> {
         written
     }
 
-    /// Where the compressed data of a guest cluster lies, and nothing where its data isn't compressed. The
-    /// cluster's offset must fit 64 bits. The table can't change while the result is held. Always `Ok`.
+    /// Returns the place of a guest cluster's compressed data, or `None` if the data isn't compressed. The
+    /// cluster's offset must fit 64 bits. The table can't change while the result exists. Always returns
+    /// `Ok`.
     pub fn lock_compressed_read(
         &self,
         guest_cluster: GuestCluster,
@@ -195,10 +195,10 @@ impl EntryTable<AtomicL2Entry> {
         }
     }
 
-    /// A table with the same mappings for another place, which has no cluster yet, and the same flag. The
-    /// host clusters that entries refer to then have a reference more, so no entry of the new table is a
-    /// copied one. But one of cluster 0 of an external data file stays, since only its flag shows that
-    /// there is a cluster. This table stays as it is. Fails only where memory runs out.
+    /// Returns a table with the same mappings and the same modified flag for another place, without a
+    /// cluster. The host clusters of its entries then have one more reference, so it has no copied flags,
+    /// except for cluster 0 of an external data file, where the flag alone shows that there is a cluster.
+    /// This table stays. Fails only if memory runs out.
     #[tactic(auto, using(crate::proofs::L2TableLemmas::clones))]
     pub fn try_clone(&self) -> Result<L2Table, Fault>
         ensures fault { IsOkUnless result Fault.NoMemory }
@@ -213,7 +213,7 @@ impl EntryTable<AtomicL2Entry> {
         Ok(self.with_entries(entries))
     }
 
-    /// Permission to change the table's mappings.
+    /// Returns a guard for changes of the table's mappings.
     pub fn lock_write(&mut self) -> L2TableWriteGuard<'_>
         ensures table { IsTableGuard self.entry result }
     {

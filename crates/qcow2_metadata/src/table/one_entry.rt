@@ -1,5 +1,5 @@
-//! One entry of a table is written with those beside it, as many as the storage's alignment asks for, so
-//! that no aligned storage has to read before it writes. None of them lies in another cluster.
+//! Writes one entry of a table with its neighbours, as many as the storage's alignment asks for, so that no
+//! aligned storage has to read before it writes. All of them lie in the entry's cluster.
 
 ghost use Rattle.std.specs.Prelude.{◌≡◌, ◌+◌, ◌*◌, ◌/◌, ◌^◌, ◌≤◌, length, IsOkUnless, OnOk, Some};
 ghost use Rattle.qcow2_base.specs.Format.{max_file_length, most_entries_in_memory};
@@ -13,10 +13,10 @@ use super::pieces::{PIECE_ENTRIES, encode};
 use crate::pieces::PIECE_BYTES;
 use qcow2_base::{Fault, HostOffset, Storage};
 
-/// How many bytes one entry has.
+/// The size of an entry in bytes.
 const ENTRY_BYTES: usize = 8;
 
-// How many entries are written for one.
+// Returns the number of entries that a write of one entry takes along, itself included.
 pub(super) fn entries_at_once<S: Storage>(image: &S, cluster_bits: u32) -> usize
     requires { IsClusterBits cluster_bits }
     ensures count { result ≡ entry_alignment cluster_bits (S.state image.now) / 8 }
@@ -29,8 +29,8 @@ pub(super) fn entries_at_once<S: Storage>(image: &S, cluster_bits: u32) -> usize
     alignment / ENTRY_BYTES
 }
 
-// Writes `count` entries from an index on to the image from an offset on, and zeros past the table's end,
-// by one call of the storage. Takes memory for more than 4096 bytes.
+// Writes `count` entries from index `first` on to the image at an offset, and zeros past the table's end, by
+// one call of the storage. Allocates a buffer if these are more than 4096 bytes.
 pub(super) fn write_entries<T: Table, S: Storage>(
     table: &T,
     image: &mut S,
@@ -53,7 +53,7 @@ pub(super) fn write_entries<T: Table, S: Storage>(
     write_through(table, image, offset, first, buffer.as_mut_slice())
 }
 
-// The same through a buffer that is as long as the entries.
+// Does so through a buffer of the entries' length.
 fn write_through<T: Table, S: Storage>(
     table: &T,
     image: &mut S,

@@ -1,4 +1,4 @@
-//! Tables are read and written in pieces of 4096 bytes, through one array.
+//! Reads and writes tables in pieces of 4096 bytes, through one array.
 
 ghost use Rattle.std.specs.Prelude.{◌≡◌, ℕ, ◌⊎◌, ◌+◌, ◌++◌, ◌*◌, ◌/◌, ◌<◌, ◌≤◌, ◌↔◌, IsTrue, length, map, slice_index, None, Some, IfOk, IfErr, OnOk};
 ghost use Rattle.qcow2_base.specs.Format.{max_file_length};
@@ -14,11 +14,11 @@ use crate::{Header, TableEntry};
 use qcow2_base::{Fault, HostCluster, HostOffset, Storage, write_be};
 use std::alloc::{AllocError, Global};
 
-/// How many entries of a table are read or written at once, at most.
+/// The greatest number of entries of a table that one call reads or writes.
 pub(super) const PIECE_ENTRIES: usize = PIECE_BYTES / 8;
 
-// The entries that are in the image from an offset on, or the fault of the first that is none. Reads
-// in pieces of 4096 bytes, and none after that of such an entry.
+// Returns the entries of the image from an offset on, or the fault of the first invalid one. Reads in pieces
+// of 4096 bytes, and nothing after the piece of an invalid entry.
 pub(super) fn read_entries<E: TableEntry + Drop, S: Storage>(
     alloc: Global,
     image: &mut S,
@@ -48,8 +48,8 @@ pub(super) fn read_entries<E: TableEntry + Drop, S: Storage>(
     Ok(list)
 }
 
-// Appends the entries whose numbers are in the bytes to the list, or returns the fault of the first that
-// is none.
+// Appends the entries with the numbers in the bytes to the list, or returns the fault of the first invalid
+// number.
 fn decode<E: TableEntry + Drop>(
     list: &mut Vec<E>,
     bytes: &[u8],
@@ -78,7 +78,7 @@ pub(super) fn number_of(chunk: &[u8; 8]) -> u64
     u64::from_be_bytes(*chunk)
 }
 
-// Refuses numbers that aren't all entries, by the fault of the first that is none.
+// Refuses numbers that aren't all valid, with the fault of the first invalid one.
 pub(super) fn check<E: TableEntry + Drop>(chunks: &[[u8; 8]], header: &Header) -> Result<(), Fault>
     ensures valid { OnOk result
         (first_fault (E.fault_of header.now.v2.cluster_bits) (chunk_numbers chunks.now) ≡ None) }
@@ -95,7 +95,7 @@ pub(super) fn check<E: TableEntry + Drop>(chunks: &[[u8; 8]], header: &Header) -
     Ok(())
 }
 
-// Whether all numbers are entries. Looks at each, so that several are tested at once.
+// Whether all numbers are valid. Has no early exit, so that the compiler can test several at once.
 fn are_lawful<E: TableEntry>(chunks: &[[u8; 8]], header: &Header) -> bool
     ensures { IsTrue result
         ↔ (first_fault (E.fault_of header.now.v2.cluster_bits) (chunk_numbers chunks.now) ≡ None) }
@@ -107,7 +107,7 @@ fn are_lawful<E: TableEntry>(chunks: &[[u8; 8]], header: &Header) -> bool
     lawful
 }
 
-// Appends entries with these numbers, which are all valid, to the list.
+// Appends the entries with these numbers, which must all be valid, to the list.
 fn append<E: TableEntry + Drop>(
     list: &mut Vec<E>,
     chunks: &[[u8; 8]],
@@ -127,7 +127,7 @@ fn append<E: TableEntry + Drop>(
     )
 }
 
-/// A table as the bytes that it takes in an image.
+/// A table as its bytes in an image.
 #[derive(Drop)]
 pub(super) struct TableBytes<'a, T: Table> {
     pub(super) table: &'a T,
@@ -154,8 +154,8 @@ impl<'a, T: Table> Packed for TableBytes<'a, T> {
     }
 }
 
-// Puts the numbers of the table's entries from an index on into the bytes, as many as these hold, and
-// zeros past the table's end.
+// Stores the numbers of the table's entries from index `first` on in the bytes, as many as fit, and zeros
+// past the table's end.
 pub(super) fn encode<T: Table>(table: &T, first: usize, bytes: &mut [u8])
     requires { first ≤ max_file_length }
     ensures written { (i : ℕ) → 8 * i + 8 ≤ length bytes.new →
@@ -168,7 +168,7 @@ pub(super) fn encode<T: Table>(table: &T, first: usize, bytes: &mut [u8])
     outside.fill(0);
 }
 
-// Puts the numbers of entries into the bytes that are all in the table.
+// Stores the numbers of entries in the bytes; all must be in the table.
 fn encode_held<T: Table>(table: &T, first: usize, bytes: &mut [u8])
     requires within { (i : ℕ) → 8 * i + 8 ≤ length bytes.old →
         first + i < length (T.state table.now).numbers }

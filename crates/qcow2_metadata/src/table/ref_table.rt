@@ -1,4 +1,4 @@
-//! Refcount tables: where the refcount blocks lie.
+//! Refcount tables: the places of the refcount blocks.
 
 ghost use Rattle.std.specs.Prelude.{◌≡◌, true, IfSome, MatchOption, Err, Ok};
 ghost use Rattle.std.proofs.Common.{lit≤};
@@ -43,11 +43,13 @@ impl EntryTable<RefTableEntry> {
     ghost use Rattle.qcow2_metadata.specs.Table.{IsReferable};
     ghost use Rattle.qcow2_metadata.specs.Table.Growth.{GrowsTo, grown_reftable_count, growth_of};
 
-    /// A copy of the table that holds an index, and pays for its own growth: the same entries, and then
-    /// zeros. They take as few whole clusters as hold the same entries, the index, and the `least_spare`
-    /// entries after it. The copy has no cluster, and counts as modified.
+    /// Returns a longer copy of the table that holds an index and has spare entries for the blocks that its
+    /// own growth needs: the same entries, and then zeros. It has the fewest whole clusters that hold the
+    /// same entries, the index, and the `least_spare` entries after it. The copy has no cluster, and counts
+    /// as modified.
     ///
-    /// Refuses to grow past the most entries that a refcount table may have. The table itself stays.
+    /// Refuses to grow past the greatest number of entries of a refcount table (fault 28). The table itself
+    /// stays.
     pub fn clone_and_grow(&self, header: &Header, at_least_index: usize) -> Result<RefTable, Fault>
         requires { header.now.v2.cluster_bits ≡ self.now.geometry.cluster_bits }
         ensures { let growth = growth_of header.now (length self.now.numbers) at_least_index in
@@ -64,10 +66,10 @@ impl EntryTable<RefTableEntry> {
         self.grown(entries, header)
     }
 
-    /// Enters a refcount block, and spends the pending value for its cluster, if there is one. The table then
-    /// counts as modified.
+    /// Makes the entry at an index refer to a refcount block, and spends the pending value of its cluster, if
+    /// there is one. The table then counts as modified.
     ///
-    /// A block with no cluster is refused: the pending value comes back, and nothing has changed.
+    /// Refuses a block without a cluster (fault 23): hands the pending value back, and changes nothing.
     pub fn enter_refblock(
         &mut self,
         index: usize,

@@ -1,4 +1,4 @@
-//! Entries are read over those of a table that is there. That takes no memory.
+//! Reads entries over those of an existing table, and allocates nothing.
 
 ghost use Rattle.std.specs.Prelude.{◌≡◌, ◌≢◌, ◌+◌, ◌++◌, ◌*◌, ◌/◌, ◌≤◌, length, map, take, None, Ok, Some, IfErr, OnErr, OnOk};
 ghost use Rattle.qcow2_base.specs.Format.{max_file_length};
@@ -13,9 +13,8 @@ use crate::range::read_range;
 use crate::{Header, TableEntry};
 use qcow2_base::{Fault, HostOffset, Storage};
 
-/// Puts the entries that are in the image from an offset on in the places of valid ones, in pieces of 4096
-/// bytes. Returns the fault of the first that is none, and reads none after its piece. The entries are valid
-/// whatever it returns.
+/// Replaces valid entries by those of the image from an offset on, in pieces of 4096 bytes. Returns the fault
+/// of the first invalid one, and reads nothing after its piece. The entries are valid afterwards in any case.
 pub(super) fn read_over<E: TableEntry + Copy + Drop, S: Storage>(
     entries: &mut [E],
     image: &mut S,
@@ -45,8 +44,8 @@ pub(super) fn read_over<E: TableEntry + Copy + Drop, S: Storage>(
     Ok(())
 }
 
-// Puts the entries whose numbers are in the bytes in the places of those from an index on, or returns the
-// fault of the first that is none. Then all stay.
+// Replaces the entries from index `first` on by those with the numbers in the bytes, or returns the fault of
+// the first invalid number and replaces none.
 fn decode_over<E: TableEntry + Copy + Drop>(
     entries: &mut [E],
     first: usize,
@@ -73,7 +72,7 @@ fn decode_over<E: TableEntry + Copy + Drop>(
     Ok(())
 }
 
-// Puts entries with these numbers, which are all valid, in the places of those from an index on.
+// Replaces the entries from index `first` on by those with these numbers, which must all be valid.
 fn overwrite<E: TableEntry + Copy + Drop>(
     entries: &mut [E],
     first: usize,
