@@ -81,7 +81,7 @@ pub trait Storage {
 /// that only reads and writes takes a `Storage`.
 pub trait Device: Storage {
     /// Waits until all earlier writes are on the device, so that they survive a crash of the machine. Changes
-    /// no byte. After a failure the device may have any of these writes. Crash safety of edits and repairs
+    /// no byte. After a failure nothing is known of the device's content. Crash safety of edits and repairs
     /// rests on this call: a storage over another must pass it on, and only one without a device may do
     /// nothing.
     fn sync(&mut self) -> Result<(), StorageFault>

@@ -169,7 +169,7 @@ fn count_list<C: Counted>(
     Ok(())
 }
 
-// Does the same, but changes no refcount if one would leave its range.
+// Changes the refcounts of the clusters of each item, or none if one would leave its range.
 fn count_all<C: Counted>(
     block: &mut RefBlock,
     first: u128,

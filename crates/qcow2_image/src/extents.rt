@@ -45,7 +45,7 @@ pub struct Extent {
 }
 
 impl Content {
-    // Returns the content of the byte at a distance from the begin of its cluster, by the cluster's mapping.
+    // Returns the content of the byte at a distance from the start of its cluster, by the cluster's mapping.
     #[inline]
     fn within(mapping: L2Mapping, distance: u64, cluster_bits: u32) -> Content
         requires placed { IsPlaced cluster_bits mapping }
@@ -132,7 +132,7 @@ fn piece_of_table(table: &L2Table, from: u64, size: u64) -> Result<(Content, u64
 }
 
 /// A reader of the content of a whole disk, extent by extent. It has the L1 table and at most one L2 table in
-/// memory. In contracts it is these tables, the header and its position.
+/// memory. In contracts it is its `ExtentsState`: what it has of the image, and its position.
 #[derive(Drop)]
 pub struct Extents<'a> {
     header: &'a Header,
@@ -200,7 +200,7 @@ fn keep_table<S: Storage>(
 impl<'a> Extents<'a> {
     ghost use Rattle.qcow2_image.specs.Extents.{IsReaderOf, MovesReader, PassesExtent, StaysReader, contents_for, extent_of};
 
-    /// Returns a reader of the extents of an image with this header, from the begin of the disk on. Reads the
+    /// Returns a reader of the extents of an image with this header, from the start of the disk on. Reads the
     /// L1 table, and returns its fault if that is refused. Changes no byte.
     pub fn new<S: Storage>(
         alloc: Global,

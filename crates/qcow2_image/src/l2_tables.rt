@@ -14,7 +14,8 @@ use std::alloc::Global;
 use std::marker::Model;
 
 /// A walk over the L2 tables that an image's L1 table names, in its order. It has the L1 table in memory, and
-/// returns one L2 table after the other. In contracts it is these L1 entries, the header and the next index.
+/// returns one L2 table after the other. In contracts it is its `WalkState`: what it has of the image, and
+/// its position.
 #[derive(Drop)]
 pub struct L2Tables<'a> {
     header: &'a Header,

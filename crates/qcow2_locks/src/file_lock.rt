@@ -87,8 +87,8 @@ impl FileLock {
         })
     }
 
-    /// Whether the lock covers byte 101, 103, 201 or 203 of the file: QEMU's programs lock these bytes to say
-    /// that they write to the image, or let nobody else write.
+    /// Whether it is a byte lock on byte 101, 103, 201 or 203 of the file. By these QEMU's programs say that
+    /// they write to the image, or let nobody else write to it.
     pub fn bars_writing(&self, file: &FileId) -> bool
         ensures { IsTrue result ↔ BarsWriting self.now file.now }
     {

@@ -53,7 +53,7 @@ impl<R: Files, F> GuardedFile<'_, R, F> {
         }
     }
 
-    // Does so before a write, unless it did since the last sync.
+    // Calls `refuse_others` before a write, unless it was called since the last sync.
     fn begin_change(&self) -> io::Result<()> {
         if !self.may_write.get() {
             self.refuse_others()?;
@@ -62,7 +62,7 @@ impl<R: Files, F> GuardedFile<'_, R, F> {
         Ok(())
     }
 
-    // Does so after a sync.
+    // Calls `refuse_others` after a sync, and lets the next write call it again.
     fn end_changes(&self) -> io::Result<()> {
         self.may_write.set(false);
         self.refuse_others()

@@ -59,7 +59,7 @@ impl HeldImage {
         self.has_come.get()
     }
 
-    // Whether the system's list forbids to change the image.
+    // Whether the system's list forbids a change of the image.
     fn is_barred<R: Files>(&self, rt: &R) -> Result<bool, Fault>
         ensures faults { IfErr result IsHoldFault }
     {
@@ -74,8 +74,8 @@ impl HeldImage {
 /// Opens the image of a path for changes, and holds it alone. Reads and writes none of its bytes.
 ///
 /// Refuses with fault 39 if another process holds it, or has it open as QEMU's programs do: to write, or to
-/// read while nobody writes. Unless `unlisted` allows it, also refuses if the system's list of locks can't be
-/// read, or doesn't have this program's own lock. Refuses with fault 34 if the file can't be opened for
+/// read and let nobody write. Unless `unlisted` allows it, also refuses if the system's list of locks can't
+/// be read, or doesn't have this program's own lock. Refuses with fault 34 if the file can't be opened for
 /// reading and writing, or a system call fails. Continues if the file system has no such locks.
 ///
 /// This keeps away only programs that make this call too. `HeldImage::refuse_others` sees the others that

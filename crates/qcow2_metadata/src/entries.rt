@@ -43,7 +43,7 @@ pub trait TableEntry: Sized {
     /// The number.
     ghost plain: { Self → ℕ };
 
-    /// By cluster_bits and number: the fault why it is no valid entry of this kind, if it isn't one.
+    /// By cluster_bits and number: the fault of a number that is no valid entry of this kind.
     ghost fault_of: { ℕ → ℕ → Option AnyFault };
 
     /// Returns the entry with this number. Refuses a number with a reserved bit (fault 18), then one whose

@@ -313,8 +313,8 @@ impl Header {
     }
 
     /// Returns the number of persistent bitmaps that agree with the disk: the number in the bitmaps
-    /// extension, or `None` if the autoclear bit is clear. A change of the disk clears that bit, and the
-    /// bitmaps are then stale.
+    /// extension, or `None` without one or if the autoclear bit is clear. A change of the disk clears that
+    /// bit, and the bitmaps are then stale.
     pub fn consistent_bitmaps(&self) -> Option<u32>
         ensures { result ≡ consistent_bitmaps self.now }
     {

@@ -26,7 +26,7 @@ ghost use Rattle.qcow2_metadata.specs.Table.L2Guards.{GivesUp, clusters_freed_by
 
 use crate::Header;
 
-/// An image's header loads exactly if the grammar says that the image begins with it.
+/// A header loads from an image exactly if the grammar says that the image begins with that header.
 pub fn the_grammar_and_the_reader_agree()
     ensures { (image : Image) (header : HeaderRecord) →
         (header_of image ≡ Ok header) ↔ IsHeader image header }

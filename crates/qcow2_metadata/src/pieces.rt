@@ -23,7 +23,7 @@ pub(crate) trait Packed {
     fn byte_count(&self) -> usize
         ensures { result ≡ (layout self.now).byte_count };
 
-    /// Returns the offset of the bytes if they begin with a cluster, or the fault why they can't lie there.
+    /// Returns the offset of the bytes if they begin with a cluster, or a fault if they can't lie there.
     fn offset_at(&self, cluster: HostCluster) -> Result<HostOffset, Fault>
         ensures place { MatchResult result
             (λ offset. place_fault (layout self.now) cluster ≡ None)
@@ -70,7 +70,7 @@ fn write_piece<S: Storage>(
     }
 }
 
-// Does so only if the image has other bytes there.
+// Writes the bytes only if the image has others there.
 fn write_changed<S: Storage>(image: &mut S, buffer: &[u8], offset: u64) -> Result<(), StorageFault>
     requires end { offset + length buffer.now ≤ max_file_length }
     requires short { length buffer.now ≤ piece_size }

@@ -202,10 +202,11 @@ pub trait Table: Sized {
     }
 
     /// Writes one entry of the table to the image, by one call of the storage. Writes the aligned bytes
-    /// around it, counted from the table's begin, with the table's entries and with zeros past its end. Their
+    /// around it, counted from the table's start, with the table's entries and with zeros past its end. Their
     /// number is the greater of the storage's alignments, but at least 8, or 8 if that is more than a
-    /// cluster. So no byte of another cluster than the entry's changes, whatever the alignments are.
-    /// Allocates a buffer if it writes more than 4096 bytes. The index must be in bounds.
+    /// cluster. So no byte of another cluster than the entry's changes, whatever the alignments, which
+    /// callers may not know. Allocates a buffer if it writes more than 4096 bytes. The index must be in
+    /// bounds.
     ///
     /// Refuses what `write` refuses, then returns `NoMemory` (35) if memory runs out; neither changes
     /// anything. The table and its modified flag always stay.
@@ -234,7 +235,8 @@ pub trait Table: Sized {
     ghost faults_are: { kind.fault_of ≡ Self.InternalEntry.fault_of };
 }
 
-// Returns the offset of a table with this number of entries, or the fault why it can't be there.
+// Returns the offset of a table with this number of entries. Refuses more than `most` (20), then an end past
+// 2^56 (21).
 fn table_offset(
     cluster: HostCluster,
     cluster_bits: u32,

@@ -33,7 +33,7 @@ pub enum L2Mapping {
     /// Compressed data in the image.
     Compressed {
         host_offset: HostOffset,
-        /// The greatest length of the compressed data, in bytes.
+        /// An upper bound of the compressed data's length, in bytes.
         length: NonZero<u64>,
     },
 }

@@ -89,7 +89,7 @@ pub(super) fn read_feature_names<S: Storage>(
     Ok(names)
 }
 
-// Adds the name in one entry of a feature name table.
+// Adds the name in one entry of a feature name table. Ignores an entry of an unknown type.
 fn add_feature_name(
     alloc: Global,
     names: &mut BTreeMap<(FeatureType, u8), String>,

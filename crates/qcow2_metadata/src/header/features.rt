@@ -108,7 +108,7 @@ impl From<IncompatibleFeatures> for (FeatureType, u8) {
 /// Compatible features. The number of each is its bit as a mask, `2^bit`.
 #[derive(Clone, Copy, Debug, PartialEq, Eq)]
 pub enum CompatibleFeatures {
-    /// Refcounts may be written late.
+    /// Updates of refcounts may be postponed.
     LazyRefcounts = 1,
 }
 

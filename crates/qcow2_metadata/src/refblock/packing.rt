@@ -97,7 +97,7 @@ pub(super) fn unpack_narrow(list: &mut [u8], order: u32, bytes: &[u8])
     }
 }
 
-// Does so for an order and its number of refcounts in a byte.
+// Reads the refcounts of order `ORDER`, of which a byte has `PER`.
 fn unpack_bytes<const ORDER: u32, const PER: usize>(list: &mut [u8], bytes: &[u8])
     requires order { ORDER ≤ 2 }
     requires per { PER ≡ per_byte ORDER }
@@ -142,7 +142,7 @@ pub(super) fn pack_narrow(list: &[u8], order: u32, first: usize, buffer: &mut [u
     }
 }
 
-// Does so for an order and its number of refcounts in a byte.
+// Stores the bytes of refcounts of order `ORDER`, of which a byte has `PER`.
 fn pack_bytes<const ORDER: u32, const PER: usize>(list: &[u8], first: usize, buffer: &mut [u8])
     requires order { ORDER ≤ 2 }
     requires per { PER ≡ per_byte ORDER }

@@ -72,8 +72,8 @@ impl EntryTable<L1Entry> {
         self.replace_entry(index, entry);
     }
 
-    /// Makes the entry at an index the only reference to an L2 table, and spends the pending value of its
-    /// cluster, if there is one. The table then counts as modified.
+    /// Makes the entry at an index refer to an L2 table, as its only reference, with the copied flag, and
+    /// spends the pending value of its cluster, if there is one. The table then counts as modified.
     ///
     /// Refuses an L2 table without a cluster (fault 23): hands the pending value back, and changes nothing.
     pub fn enter_l2_table(

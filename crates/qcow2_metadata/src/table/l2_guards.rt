@@ -169,7 +169,7 @@ impl CompressedClusterReadGuard<'_> {
         self.offset
     }
 
-    /// Returns the greatest length of the data, in bytes.
+    /// Returns an upper bound of the data's length, in bytes.
     #[inline]
     pub fn length(&self) -> NonZero<u64>
         ensures { non_zero_u64_get result ≡ (guarded_range self.now).1 }

@@ -53,7 +53,7 @@ pub(super) fn write_entries<T: Table, S: Storage>(
     write_through(table, image, offset, first, buffer.as_mut_slice())
 }
 
-// Does so through a buffer of the entries' length.
+// Writes the entries from index `first` on through a buffer of their length.
 fn write_through<T: Table, S: Storage>(
     table: &T,
     image: &mut S,
