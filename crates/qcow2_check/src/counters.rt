@@ -1,4 +1,4 @@
-//! What an image's own counters say of its clusters.
+//! The refcounts that an image stores.
 
 ghost use Rattle.std.specs.Prelude.{◌≡◌, ◌↔◌, ℕ, ◌+◌, ◌<◌, ◌≤◌, Ok, Some, None, IfOk, IfSome, IsOkUnless, IsSomeAnd, IsTrue, MatchResult, OnOk, length, slice_index};
 ghost use Rattle.qcow2_base.specs.Storage.{OnImage};
@@ -17,14 +17,14 @@ use qcow2_metadata::{Header, RefBlock, RefTable, Table};
 use std::alloc::Global;
 use std::marker::Model;
 
-/// A reader of an image's counters. It holds the refcount table and at most one block. Clauses see it as what
-/// it has of the image.
+/// A reader of an image's refcounts. It holds the refcount table and caches at most one refcount block.
+/// Contracts see the header, the table's entries and the cached block.
 #[derive(Drop)]
 pub struct Counters<'a> {
     header: &'a Header,
     reftable: RefTable,
     block: Option<RefBlock>,
-    // The index of the refcount table entry that names the block.
+    // The index of the refcount table entry that names the cached block.
     kept_index: usize,
 }
 
@@ -52,7 +52,7 @@ impl<'a> Model for Counters<'a> {
         (slice_index c.reftable.numbers c.kept_index) ≡ Some place)) };
 }
 
-// Why the block that a refcount table entry names can't lie there.
+// Refuses the block that a refcount table entry names if it would end past 2^56 (fault 21).
 #[tactic(auto, using(crate::proofs::CountersLemmas::refused, crate::proofs::CountersLemmas::accepted))]
 fn check_place(header: &Header, reftable: &RefTable, index: usize) -> Result<(), Fault>
     requires { reftable.now.geometry ≡ geometry_of header.now }
@@ -69,7 +69,7 @@ fn check_place(header: &Header, reftable: &RefTable, index: usize) -> Result<(),
     Ok(())
 }
 
-// Why the blocks can't all lie where the refcount table says, by the first that can't.
+// Refuses a refcount table that names a block which would end past 2^56 (fault 21).
 #[tactic(auto, using(crate::proofs::CountersLemmas::places_more))]
 fn check_places(header: &Header, reftable: &RefTable) -> Result<(), Fault>
     requires { reftable.now.geometry ≡ geometry_of header.now }
@@ -83,8 +83,8 @@ fn check_places(header: &Header, reftable: &RefTable) -> Result<(), Fault>
     Ok(())
 }
 
-// Reads the refcount block that begins with a cluster over the one that is kept, or loads it where none is.
-// After a fault what is kept may be no block of the image.
+// Reads the refcount block at a cluster into the cached one, or loads it if none is cached. After a fault the
+// cached block may be none of the image's.
 fn read_block<S: Storage>(
     kept: &mut Option<RefBlock>,
     image: &mut S,
@@ -109,8 +109,8 @@ fn read_block<S: Storage>(
     }
 }
 
-// Keeps the refcount block that begins with a cluster: the one that is kept, where that is it, or else the
-// one that `read_block` reads. After a fault none is kept.
+// Caches the refcount block at a cluster, and reads it with `read_block` unless it is the cached one. After a
+// fault no block is cached.
 fn keep_block<S: Storage>(
     kept: &mut Option<RefBlock>,
     image: &mut S,
@@ -145,8 +145,8 @@ fn keep_block<S: Storage>(
     }
 }
 
-// Whether that many counters of a block from an index on are all 1. Looks at each, so that several are
-// compared at once.
+// Whether `count` refcounts of a block, from an index on, are all 1. Reads each, so that the compiler can
+// compare several at once.
 #[inline(always)]
 fn are_one(block: &RefBlock, index: usize, count: usize) -> bool
     requires { index + count ≤ length block.now.numbers }
@@ -160,8 +160,8 @@ fn are_one(block: &RefBlock, index: usize, count: usize) -> bool
     are_one
 }
 
-/// Where the clusters end that blocks count which a refcount table names: the number after the last of them,
-/// or 0 where there is none.
+/// Returns the first cluster after all those that the named refcount blocks count, or 0 if the refcount table
+/// names no block.
 #[tactic(auto, using(crate::proofs::CountersLemmas::ends_of_blocks))]
 pub fn counted_end(header: &Header, reftable: &RefTable) -> u64
     requires { reftable.now.geometry ≡ geometry_of header.now }
@@ -183,8 +183,8 @@ impl<'a> Counters<'a> {
     ghost use Rattle.qcow2_base.specs.Storage.{Image};
     ghost use Rattle.qcow2_check.specs.Counters.{IsCountedEnd, block_of_cluster, blocks_fault, counter_of, counters_each, placed_reftable};
 
-    /// A reader of the counters of an image with this header. Reads the refcount table, and returns its fault
-    /// where it is refused, and then 21 where a block that it names would end past 2^56. Changes no byte.
+    /// Reads the refcount table of an image with this header. Returns the table's fault if it is refused,
+    /// else 21 if a block that it names would end past 2^56. Changes no byte.
     pub fn new<S: Storage>(
         alloc: Global,
         image: &mut S,
@@ -209,7 +209,7 @@ impl<'a> Counters<'a> {
         })
     }
 
-    // The cluster that the block of a cluster begins with, if there is one.
+    // The cluster of the refcount block that counts a cluster, if the refcount table names one.
     #[inline]
     #[tactic(auto, using(crate::proofs::CountersLemmas::place_of_block))]
     fn block_of(&self, cluster: HostCluster) -> Option<HostCluster>
@@ -220,7 +220,7 @@ impl<'a> Counters<'a> {
         named_block(&self.reftable, cluster.rt_index(self.header.rb_bits()))
     }
 
-    /// The block of a cluster, if it is kept.
+    /// The cached block, if it counts this cluster.
     #[inline]
     pub(crate) fn kept_for(&self, cluster: HostCluster) -> Option<&RefBlock>
         ensures kept { IfSome result (λ block. self.now.block ≡ Some block.now) }
@@ -233,9 +233,8 @@ impl<'a> Counters<'a> {
         (cluster.rt_index(self.header.rb_bits()) == self.kept_index).then_some(block)
     }
 
-    /// The counters that the kept block has at the indices of clusters, which are theirs if it is their
-    /// block. If none is kept they are 0. Nothing else is done in the loop, so that their width is looked at
-    /// once.
+    /// The cached block's refcounts at the indices of some clusters: theirs if the block counts them. 0 if no
+    /// block is cached. The loop does nothing else, so that the width of the refcounts is tested once.
     #[inline(always)]
     pub(crate) fn kept_at(&self, clusters: &[u64; TOGETHER]) -> [u64; TOGETHER]
         ensures { IfSome self.now.block (λ block. (k : ℕ) → k < 16 → slice_index result k
@@ -254,8 +253,8 @@ impl<'a> Counters<'a> {
         counters
     }
 
-    /// Whether the counter of a cluster is in the block that is kept, and 1, by what `kept_at` returned for
-    /// the cluster. Has no branch that depends on it.
+    /// Whether the cached block counts a cluster and its refcount is 1. `kept` is what `kept_at` returned for
+    /// the cluster. Doesn't branch on `kept`.
     #[inline(always)]
     #[tactic(auto, using(crate::proofs::CountersLemmas::kept_counter))]
     pub(crate) fn is_kept_sole(&self, cluster: HostCluster, kept: u64) -> bool
@@ -268,7 +267,7 @@ impl<'a> Counters<'a> {
         self.block.is_some() & (table_index == self.kept_index) & (kept == 1)
     }
 
-    /// Whether the counters of that many clusters from one on are all in the block that is kept, and 1.
+    /// Whether the cached block counts `count` clusters from one on, and all their refcounts are 1.
     #[inline(always)]
     pub(crate) fn are_kept_sole(&self, first: HostCluster, count: usize) -> bool
         ensures { IsTrue result → (image : Image) → IsKeptBlockOf self.now.header image self.now.block →
@@ -289,8 +288,9 @@ impl<'a> Counters<'a> {
         self.block_of(cluster).is_some()
     }
 
-    /// Up to where clusters have no block as this one has none: the end of those that its block would have,
-    /// and no end past the refcount table's.
+    /// For a cluster without a refcount block, returns a bound before which all clusters after it have none
+    /// either: the end of the range that its block would count, or `u64::MAX` if the refcount table ends
+    /// before it.
     #[tactic(auto, using(crate::proofs::CountersLemmas::same_block, crate::proofs::CountersLemmas::ends))]
     pub fn block_end(&self, cluster: HostCluster) -> u64
         requires fits { cluster.0 < max_file_length }
@@ -308,7 +308,7 @@ impl<'a> Counters<'a> {
         cluster.0 - index as u64 + self.header.rb_entries() as u64
     }
 
-    /// The first of the clusters that have their counters in one block with this one's, if there is one.
+    /// The first cluster that the block of this cluster counts, or would count if there were one.
     #[tactic(auto, using(crate::proofs::CountersLemmas::block_before))]
     pub fn block_start(&self, cluster: HostCluster) -> u64
         ensures start { result + cluster.0 % counters_each self.now.header ≡ cluster.0 }
@@ -328,7 +328,7 @@ impl<'a> Counters<'a> {
         self.header
     }
 
-    /// Where the clusters end that blocks count: the number after the last of them, or 0 where there is none.
+    /// The first cluster after all those that refcount blocks count, or 0 without any block.
     pub fn counted(&self) -> u64
         ensures { IsCountedEnd self.now.header self.now.reftable result }
     {
@@ -346,7 +346,7 @@ impl<'a> Counters<'a> {
         &self.reftable
     }
 
-    /// The refcount table, without its reader. The memory of the block is given back.
+    /// The refcount table. Frees the memory of the cached block.
     pub fn into_reftable(self) -> RefTable
         ensures numbers { result.numbers ≡ self.entry.reftable }
         ensures geometry { result.geometry ≡ geometry_of self.entry.header }
@@ -356,10 +356,10 @@ impl<'a> Counters<'a> {
         self.reftable
     }
 
-    /// The counter of a cluster, which is 0 where the refcount table names no block for it or ends before it.
+    /// Returns the refcount of a cluster: 0 if the refcount table names no block for it or ends before it.
     ///
-    /// Fails where the storage does or memory runs out, and can be called again then. The image must be the
-    /// one that the reader was made for, unchanged since. Changes no byte.
+    /// Fails if the storage fails or memory runs out, and can be called again then. The image must be the one
+    /// that the reader was made for, unchanged since. Changes no byte.
     #[inline]
     #[tactic(auto, using(crate::proofs::CountersLemmas::kept_counter))]
     pub fn get<S: Storage>(&mut self, image: &mut S, cluster: HostCluster) -> Result<u64, Fault>
@@ -377,7 +377,7 @@ impl<'a> Counters<'a> {
         self.load(image, cluster)
     }
 
-    // The same, where the block of the cluster isn't kept yet.
+    // `get` for a cluster whose block isn't cached.
     fn load<S: Storage>(&mut self, image: &mut S, cluster: HostCluster) -> Result<u64, Fault>
         requires { OnImage (S.state image.old) (λ bytes. IsKeptBlockOf self.old.header bytes self.old.block) }
         ensures reads { Reads (λ counter. counter) result

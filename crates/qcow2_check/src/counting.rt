@@ -1,4 +1,4 @@
-//! A tally as a sink of the walk: it counts the uses of clusters that it takes.
+//! A tally as a sink of the walk: it counts the references that it takes.
 
 ghost use Rattle.std.specs.Prelude.{◌≡◌, ℕ, ◌+◌, ◌-◌, ◌*◌, ◌^◌, ◌<◌, ◌≤◌, [], ◌∷◌, false, is_some, IfSome, IsOkUnless, IsTrue, None, OnOk, flat_map, length, map, slice_index};
 ghost use Rattle.std.proofs.Common.{arith};
@@ -24,10 +24,10 @@ use crate::walk::walk_uses;
 use qcow2_base::{ClusterCount, Fault, HostCluster, Storage, field};
 use qcow2_metadata::{L2Entry, L2Table, Table, TableEntry};
 
-// How many entries are looked at together.
+// The number of L2 entries that are tested as one group.
 pub(crate) const TOGETHER: usize = 16;
 
-// Counts one use of each of that many clusters from one on.
+// Counts one reference to each of `count` clusters from `first` on.
 #[tactic(auto, using(crate::proofs::TallyLemmas::counts_next))]
 fn count_clusters(
     tally: &mut Tally,
@@ -61,7 +61,7 @@ fn count_entry(tally: &mut Tally, entry: L2Entry, cluster_bits: u32) -> Result<(
     }
 }
 
-// Whether an L2 entry refers to a cluster. Has no branch, since which entries do can't be guessed.
+// Whether an L2 entry refers to a cluster. Has no branch, since the processor couldn't predict it.
 #[inline(always)]
 fn refers(entry: L2Entry) -> bool
     ensures { (cb : ℕ) → result ≡ is_some (allocation (geometry cb false) entry) }
@@ -92,8 +92,8 @@ fn cluster_bounds(entry: L2Entry, cluster_bits: u32) -> (u64, u64)
     (first >> (cluster_bits - 9), last >> (cluster_bits - 9))
 }
 
-// Counts the cluster that an L2 entry refers to, unless it refers to several or its use can't be counted by
-// `try_add_if`. Returns whether it is counted; else nothing changes.
+// Counts the reference of an L2 entry to a single cluster. Returns false and changes nothing if the entry
+// refers to several, or if `try_add_if` can't count it.
 #[inline(always)]
 fn count_single(tally: &mut Tally, entry: L2Entry, cluster_bits: u32) -> bool
     requires bits { IsClusterBits cluster_bits }
@@ -119,7 +119,7 @@ pub(crate) fn entry_at(table: &L2Table, index: usize) -> L2Entry
     table.get_ref(index).unwrap().get()
 }
 
-/// Whether the entries from an index on, as many as are looked at together, are all 0.
+/// Whether the `TOGETHER` entries from an index on are all 0.
 #[inline(always)]
 pub(crate) fn are_unallocated(table: &L2Table, first: usize) -> bool
     requires { first + 16 ≤ length table.now.numbers }
@@ -160,7 +160,7 @@ fn count_entries(tally: &mut Tally, table: &L2Table) -> Result<(), Fault>
 }
 
 impl UseKind {
-    // The kind that a tally counts it as.
+    // The kind that a tally counts such a reference as.
     #[inline(always)]
     fn tally_kind(self) -> TallyKind
         ensures { result ≡ tally_kind self }
@@ -196,8 +196,8 @@ impl UseSink for Tally {
         Prim.grind (arith, one, other, map-append, fold-append) };
 }
 
-/// The most uses that an image can have of one cluster: one for each L2 table that is named and for each of
-/// its entries, one for each entry of the refcount table, and three of the header.
+/// The most references that one cluster of an image can have: one from each L1 entry that names an L2 table,
+/// one from each entry of these tables, one from each refcount table entry, and three from the header.
 pub(crate) fn most_uses(tables: &ImageTables<'_>) -> u64 {
     let l1_table = tables.l1_table;
     let mut named = 0u64;
@@ -211,7 +211,7 @@ pub(crate) fn most_uses(tables: &ImageTables<'_>) -> u64 {
         .saturating_add(3)
 }
 
-/// Counts all clusters that an image uses.
+/// Counts all references of an image to clusters.
 #[tactic(auto, using(crate::proofs::CountingLemmas::first_kept))]
 pub(crate) fn count_image<S: Storage>(
     tally: &mut Tally,

@@ -1,4 +1,4 @@
-//! Whether the file of an image has the tables and refcount blocks that the image names.
+//! Refuses an image whose file ends before tables or refcount blocks that it names.
 
 ghost use Rattle.std.specs.Prelude.{◌≡◌, IfOk, IsOkUnless, None, refl};
 ghost use Rattle.std.specs.List.{fold};
@@ -19,18 +19,18 @@ use qcow2_base::{ClusterCount, Device, Fault};
 use qcow2_metadata::Header;
 use std::alloc::Global;
 
-/// A sink of the walk that finds the first use of clusters which a file doesn't have, because it ends before
-/// them. The header isn't looked for: it was read from the file.
+/// A sink of the walk that finds the first reference to clusters past the end of a file. It accepts the
+/// header, which was read from the file.
 #[derive(Drop)]
 pub struct FileEnd {
-    /// How many clusters the file has, the last of which may be cut.
+    /// The number of clusters in the file. The last may be partial.
     pub clusters: u64,
-    /// The first use of clusters that it doesn't have.
+    /// The first reference to clusters past the end.
     pub missing: Option<Use>,
 }
 
 impl FileEnd {
-    /// The end of a file of that many clusters, before any use.
+    /// The end of a file of that many clusters, before any reference.
     pub fn new(clusters: ClusterCount) -> FileEnd
         ensures { result ≡ record { clusters = clusters.0; missing = None } }
     {
@@ -40,7 +40,7 @@ impl FileEnd {
         }
     }
 
-    // Whether the file has the clusters of a use.
+    // Whether the file has the clusters of a reference.
     #[inline]
     fn has_use(&self, used: Use) -> bool
         ensures { result ≡ has_use self.now.clusters used }
@@ -68,7 +68,8 @@ impl UseSink for FileEnd {
     ghost takes_both = { λ first second a b c one other. Prim.grind (arith, one, other, fold-append) };
 }
 
-// The first table or block of an image with these tables that a file of that many clusters doesn't have.
+// The first table or refcount block of an image with these tables that has a cluster past the end of a file
+// of that many clusters.
 fn missing_table(tables: &ImageTables<'_>, clusters: ClusterCount) -> Result<Option<Use>, Fault>
     ensures fault { IsOkUnless result NoMemory }
     ensures missing { IfOk result (λ missing. missing ≡ missing_use clusters.0 (tables_list tables.now)) }
@@ -78,13 +79,13 @@ fn missing_table(tables: &ImageTables<'_>, clusters: ClusterCount) -> Result<Opt
     Ok(file.missing)
 }
 
-/// Refuses an image with this header that ends before a table or refcount block which the header or the
-/// active L1 table names. Bytes past the end read as zeros, so a repair would free what such a table names,
-/// and a write would lengthen the image and hide that it was cut. The last cluster may be cut. An image
-/// whose end isn't known has all.
+/// Refuses an image that ends before a table or refcount block that the header or the active L1 table names.
+/// Bytes past the end read as zeros: a repair would free the clusters that such a table names, and a write
+/// would lengthen the image and hide the loss. A partial last cluster counts as present, and an image of
+/// unknown length has all clusters.
 ///
-/// Returns the first of these faults: that of the L1 table, that of the refcount table, or 21 where a
-/// table or block has a cluster past the end. Changes no byte.
+/// Returns the first of these faults: that of the L1 table, that of the refcount table, or 21 if a table or
+/// block has a cluster past the end. Changes no byte.
 pub fn refuse_tables_past_end<S: Device>(
     alloc: Global,
     image: &mut S,

@@ -1,4 +1,4 @@
-//! Clusters whose counter isn't their number of uses, or that have uses which exclude each other.
+//! Clusters whose refcount isn't their number of references, or whose references exclude each other.
 
 ghost use Rattle.std.specs.Prelude.{◌≡◌, ◌↔◌, ℕ, ◌+◌, ◌/◌, ◌^◌, ◌<◌, ◌≤◌, IfErr, IfOk, IfSome, IsTrue, None, false, length, slice_index};
 ghost use Rattle.qcow2_base.specs.Format.{max_file_length};
@@ -21,23 +21,23 @@ use qcow2_metadata::{Header, L1Table, RefBlock, RefTable, Table};
 use std::alloc::Global;
 use std::marker::Model;
 
-// How many clusters are compared together.
+// The number of clusters that are compared as one group.
 const TOGETHER: usize = 64;
 
-/// What is wrong with a cluster.
+/// A host cluster whose refcount isn't its number of references, or whose references exclude each other.
 #[derive(Clone, Copy, Debug, PartialEq, Eq)]
 pub struct Finding {
     pub cluster: HostCluster,
-    /// What its counter says, which is 0 where it has none.
+    /// Its refcount: 0 if no refcount block counts it.
     pub counter: u64,
-    /// How many uses it has.
+    /// The number of references to it.
     pub uses: u64,
-    /// Whether its uses exclude each other.
+    /// Whether its references exclude each other.
     pub shared: bool,
 }
 
 impl Finding {
-    // Whether something is wrong.
+    // Whether the refcount is wrong or the references exclude each other.
     #[inline]
     fn is_wrong(&self) -> bool
         ensures { result ≡ is_wrong self.now }
@@ -45,14 +45,14 @@ impl Finding {
         self.counter != self.uses || self.shared
     }
 
-    /// Whether the counter is greater than the number of uses.
+    /// Whether the refcount is greater than the number of references.
     pub fn is_leaked(&self) -> bool
         ensures { result ≡ is_leaked self.now }
     {
         self.uses < self.counter
     }
 
-    /// Whether it is smaller.
+    /// Whether the refcount is smaller than the number of references.
     pub fn is_missing(&self) -> bool
         ensures { result ≡ is_missing self.now }
     {
@@ -61,8 +61,8 @@ impl Finding {
 }
 
 /// A reader of an image's findings, one after another. It holds the L1 table, the refcount table, a refcount
-/// block and the uses of a part of the image's clusters. Clauses see it as what it has of the image and how
-/// far it has come.
+/// block and the reference counts of some of the image's clusters. Contracts see these and the cluster that
+/// the reader has reached.
 #[derive(Drop)]
 pub struct Findings<'a> {
     header: &'a Header,
@@ -103,7 +103,7 @@ impl<'a> Model for Findings<'a> {
         × (tally.end ≤ max_file_length)) };
 }
 
-// The counters of a block from an index on.
+// `TOGETHER` refcounts of a block, from an index on.
 fn counters_from(block: &RefBlock, index: usize) -> [u64; TOGETHER]
     requires { index + 64 ≤ length block.now.numbers }
     ensures { (k : ℕ) → k < 64 → slice_index result k ≡ slice_index block.now.numbers (index + k) }
@@ -116,8 +116,9 @@ fn counters_from(block: &RefBlock, index: usize) -> [u64; TOGETHER]
     counters
 }
 
-// How many clusters from one on nothing is wrong with, at most that many, by their counters from an index on
-// and by their cells. Perhaps some more.
+// Returns a number of clusters from `first` on, at most `count`, that are right, all referenced by guest data
+// alone or not at all. Their refcounts begin at `index` of the block. Counts whole groups of `TOGETHER`, so
+// more may be right.
 #[tactic(auto, using(crate::proofs::FindingsLemmas::plain_is_right))]
 fn plain_clusters(block: &RefBlock, tally: &Tally, first: u64, index: usize, count: usize) -> usize
     requires first { tally.now.first ≤ first }
@@ -137,7 +138,7 @@ fn plain_clusters(block: &RefBlock, tally: &Tally, first: u64, index: usize, cou
     count / TOGETHER * TOGETHER
 }
 
-// The same, but that it looks further where several that are compared together aren't all used by guest data.
+// The same, and then up to one more group, cluster by cluster, whatever refers to them. More may be right.
 fn right_clusters(block: &RefBlock, tally: &Tally, first: u64, index: usize, count: usize) -> usize
     requires first { tally.now.first ≤ first }
     requires fits { first + count < 2 ^ 64 }
@@ -157,7 +158,7 @@ fn right_clusters(block: &RefBlock, tally: &Tally, first: u64, index: usize, cou
     end
 }
 
-// Whether nothing is wrong with a cluster of this counter and this cell.
+// Whether a cluster with this refcount and this cell is right.
 #[inline]
 fn is_right(counter: u64, cell: u64) -> bool
     ensures { IsTrue result ↔ (counter ≡ cell / 8) × (is_shared_cell cell ≡ false) }
@@ -177,12 +178,12 @@ impl<'a> Findings<'a> {
     ghost use Rattle.qcow2_check.specs.Flags.{IsFlagsOf, flags_left, image_flags};
     ghost use Rattle.qcow2_check.specs.NamedTables.{l1_cluster, l1_layout};
 
-    /// A reader of the findings of an image with this header, before the first of them. Reads its tables, and
-    /// counts the uses of the first clusters.
+    /// Reads the tables of an image with this header, counts the references to its first clusters, and
+    /// returns a reader before the first finding.
     ///
-    /// Returns the first of these faults: 37 where the image has snapshots, bitmaps or LUKS encryption,
-    /// that of the L1 table, that of the refcount table, 21 where a refcount block would end past 2^56, or
-    /// that of an L2 table. Changes no byte.
+    /// Returns the first of these faults: 37 if the image has snapshots, bitmaps or LUKS encryption, that of
+    /// the L1 table, that of the refcount table, 21 if a refcount block would end past 2^56, or that of an L2
+    /// table. Changes no byte.
     pub fn new<S: Storage>(
         alloc: Global,
         image: &mut S,
@@ -217,10 +218,11 @@ impl<'a> Findings<'a> {
         })
     }
 
-    /// The next finding, or nothing after the last. Findings come in the order of clusters, each once.
+    /// Returns the next finding, or `None` after the last. Findings come in the order of clusters, at most
+    /// one for each.
     ///
-    /// Fails where the storage does or memory runs out, and can be called again then. The image must be the
-    /// one that the reader was made for, unchanged since. Changes no byte.
+    /// Fails if the storage fails or memory runs out, and can be called again then. The image must be the one
+    /// that the reader was made for, unchanged since. Changes no byte.
     pub fn next<S: Storage>(&mut self, image: &mut S) -> Result<Option<Finding>, Fault>
         requires { OnImage (S.state image.old) (λ bytes. IsFindingsOf bytes self.old) }
         ensures finding { OnImage (S.state image.old) (λ bytes.
@@ -239,8 +241,8 @@ impl<'a> Findings<'a> {
         Ok(None)
     }
 
-    /// A reader of the wrong flags of the same image, before the first of them. It takes over the L1 table
-    /// and the counters. The memory of the uses is given back.
+    /// Turns the reader into one of the same image's wrong copied flags, before the first of them. It takes
+    /// over the L1 table and the reader of refcounts. Frees the memory of the reference counts.
     pub fn into_flags(self) -> Flags<'a>
         ensures flags { result ≡ record {
           header = self.entry.header;
@@ -256,8 +258,8 @@ impl<'a> Findings<'a> {
         Flags::new(self.header, self.l1_table, self.counters)
     }
 
-    /// The L1 table and the refcount table of the same image, and the uses that were counted last, if they
-    /// are kept. All other memory is given back.
+    /// The L1 table and the refcount table of the image, and the last counted references if any are held.
+    /// Frees all other memory.
     pub fn into_parts(self) -> (L1Table, RefTable, Option<Tally>)
         ensures numbers { (result.0.numbers ≡ self.entry.l1)
             × (result.1.numbers ≡ self.entry.counters.reftable) × (result.2 ≡ self.entry.tally) }
@@ -289,7 +291,7 @@ impl<'a> Findings<'a> {
         self.counters.has_block(cluster)
     }
 
-    // What is found at a cluster that is counted.
+    // The refcount and the references of a cluster whose references are counted.
     fn look_at<S: Storage>(&mut self, image: &mut S, cluster: u64) -> Result<Finding, Fault>
         requires counted { IfSome self.old.tally (λ tally. (tally.first ≤ cluster) × (cluster < tally.end)) }
         requires some { IsSome self.old.tally }
@@ -312,8 +314,8 @@ impl<'a> Findings<'a> {
         })
     }
 
-    // The first cluster from the reader's on that something may be wrong with, or the end of those that are
-    // counted.
+    // A counted cluster before which, from the reader's position on, all are right, or the end of the counted
+    // ones. It may be right itself.
     fn candidate(&self) -> u64
         requires some { IsSome self.now.tally }
         requires before { IfSome self.now.tally (λ tally. self.now.position < tally.end) }
@@ -337,8 +339,8 @@ impl<'a> Findings<'a> {
         tally.next_used(self.position, limit.min(tally.end()))
     }
 
-    // Goes past the clusters that are counted, up to the next one that something may be wrong with, and
-    // returns what is.
+    // Moves the reader past a counted cluster that may be wrong, and returns the cluster's finding if it is.
+    // Stops at the end of the counted clusters.
     #[tactic(auto, using(crate::proofs::FindingsLemmas::right_more))]
     fn pass_counted<S: Storage>(&mut self, image: &mut S) -> Result<Option<Finding>, Fault>
         requires some { IsSome self.old.tally }
@@ -364,8 +366,8 @@ impl<'a> Findings<'a> {
         Ok(None)
     }
 
-    // Goes past some clusters, and returns what is wrong with the last. Counts their uses first, unless they
-    // are counted.
+    // Moves the reader past one or more clusters, and returns the finding of the last if it is wrong. Counts
+    // their references first unless they are counted.
     fn step<S: Storage>(&mut self, image: &mut S) -> Result<Option<Finding>, Fault>
         requires before { self.old.position < max_file_length }
         requires reader { OnImage (S.state image.old) (λ bytes. IsFindingsOf bytes self.old) }
@@ -380,7 +382,7 @@ impl<'a> Findings<'a> {
         self.pass_counted(image)
     }
 
-    // Whether the uses of the reader's cluster are counted.
+    // Whether the references to the reader's cluster are counted.
     fn is_counted(&self) -> bool
         ensures { IsTrue result ↔ IsSomeAnd self.now.tally (λ tally. self.now.position < tally.end) }
     {
@@ -390,7 +392,7 @@ impl<'a> Findings<'a> {
         }
     }
 
-    // Counts the uses of the reader's cluster and of those after it, unless they are counted.
+    // Counts the references to the reader's cluster and to those after it, unless they are counted.
     fn keep_window<S: Storage>(&mut self, image: &mut S) -> Result<(), Fault>
         requires before { self.old.position < max_file_length }
         requires reader { OnImage (S.state image.old) (λ bytes. IsFindingsOf bytes self.old) }
@@ -403,7 +405,7 @@ impl<'a> Findings<'a> {
         if self.is_counted() {
             return Ok(());
         }
-        // Its memory is given back before the next window takes as much.
+        // Free its memory before the next window takes as much.
         self.tally = None;
         let tables = ImageTables {
             header: self.header,

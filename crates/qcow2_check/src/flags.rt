@@ -1,4 +1,4 @@
-//! Entries whose copied flag isn't what the counter of their cluster says.
+//! L1 and L2 entries whose copied flag contradicts their cluster's refcount.
 
 ghost use Rattle.std.specs.Prelude.{◌≡◌, ℕ, ◌%◌, ◌+◌, ◌*◌, ◌/◌, ◌^◌, ◌<◌, ◌≤◌, false, true, IsTrue, IfErr, IfOk, IfSome, Ok, length, slice_index};
 ghost use Rattle.qcow2_base.specs.Format.{most_l1_entries};
@@ -18,7 +18,7 @@ use qcow2_base::{Fault, GuestCluster, GuestOffset, HostCluster, HostOffset, Stor
 use qcow2_metadata::{Header, L1Table, L2Entry, L2Table, Table, TableEntry};
 use std::marker::Model;
 
-/// Which entry a copied flag is in.
+/// The entry that has a copied flag.
 #[derive(Clone, Copy, Debug, PartialEq, Eq)]
 pub enum FlagPlace {
     /// The L1 entry at an index.
@@ -27,22 +27,22 @@ pub enum FlagPlace {
     Offset(GuestOffset),
 }
 
-/// A copied flag that is wrong. It is set in an entry whose cluster has a counter other than 1: who writes
-/// there in place destroys somebody else's data. Or it isn't set, though the counter is 1 or there is none:
-/// that only costs a copy.
+/// A wrong copied flag. If it is set, the cluster's refcount isn't 1: a program that writes there in place
+/// destroys data that others refer to. If it isn't set, the refcount is 1 or the cluster has none: this only
+/// costs a copy.
 #[derive(Clone, Copy, Debug, PartialEq, Eq)]
 pub struct WrongFlag {
     pub place: FlagPlace,
     /// The cluster that the entry names.
     pub cluster: HostCluster,
-    /// The counter of the cluster, which has none in an external data file.
+    /// The refcount of the cluster. `None` in an external data file, whose clusters have no refcounts.
     pub counter: Option<u64>,
     pub is_set: bool,
 }
 
-/// A reader of an image's wrong flags, one after another: those of L1 entries in their order, each followed
-/// by those of the L2 table that the entry names. It holds the L1 table, the refcount table, a refcount
-/// block and an L2 table. Clauses see it as what it has of the image and how far it has come.
+/// A reader of an image's wrong copied flags, one after another: in the order of L1 entries, each followed by
+/// the flags of its L2 table. It holds the L1 table, the refcount table, a refcount block and an L2 table.
+/// Contracts see these and the entry that the reader has reached.
 #[derive(Drop)]
 pub struct Flags<'a> {
     header: &'a Header,
@@ -80,7 +80,8 @@ impl<'a> Model for Flags<'a> {
         × (f.index < length f.l1_table.numbers)) };
 }
 
-// The flag of the entry at a place, where it is wrong by the counter of the cluster that the entry names.
+// The copied flag of the entry at a place, if it contradicts the refcount of the cluster that the entry
+// names.
 #[inline]
 fn wrong_flag(
     place: FlagPlace,
@@ -102,7 +103,8 @@ fn wrong_flag(
     })
 }
 
-/// The cluster that an L2 entry with a flag names, if it names one.
+/// The cluster that an L2 entry names, if the entry has a copied flag. `None` for a compressed entry, and for
+/// one that names no cluster.
 #[inline]
 pub fn flagged_cluster(
     entry: L2Entry,
@@ -119,7 +121,7 @@ pub fn flagged_cluster(
     Some(offset.cluster(cluster_bits))
 }
 
-// The counter of a cluster of guest data that an L2 table names, which has none in an external data file.
+// The refcount of a guest data cluster. `None` in an external data file.
 #[inline]
 fn data_counter<S: Storage>(
     counters: &mut Counters<'_>,
@@ -141,7 +143,7 @@ fn data_counter<S: Storage>(
     Ok(Some(counters.get(image, cluster)?))
 }
 
-// The flag of the entry at an index of the L2 table of an L1 entry, where it is wrong.
+// The copied flag of an L2 entry, if it is wrong.
 #[inline]
 #[tactic(auto, using(crate::proofs::FlagsLemmas::guest_offset_fits))]
 fn entry_flag<S: Storage>(
@@ -184,8 +186,7 @@ fn cluster_at(entry: L2Entry, cluster_bits: u32) -> HostCluster
     HostOffset(field(entry.to_plain(), 9, 47) * 512).cluster(cluster_bits)
 }
 
-// The clusters at the offsets of the entries from an index on, as many as are looked at together, as if all
-// were standard ones.
+// The clusters at the offsets of the `TOGETHER` entries from an index on, as if all were standard entries.
 #[inline(always)]
 fn clusters_at(table: &L2Table, first: usize) -> [u64; TOGETHER]
     requires { first + 16 ≤ length table.now.numbers }
@@ -201,8 +202,8 @@ fn clusters_at(table: &L2Table, first: usize) -> [u64; TOGETHER]
     clusters
 }
 
-// Whether the flag of an entry is right by the block that is kept, or the entry has none. The counter is the
-// one that the block has at the index of the entry's cluster.
+// Whether an entry is compressed or names no cluster, or its copied flag is set and its cluster's refcount is
+// 1 by the cached block. `kept` is the block's refcount at the index of the cluster.
 #[inline(always)]
 #[tactic(auto, using(crate::proofs::FlagsLemmas::sole_is_right, crate::proofs::FlagsLemmas::other_is_right))]
 fn is_right(counters: &Counters<'_>, entry: L2Entry, cluster_bits: u32, kept: u64) -> bool
@@ -216,8 +217,8 @@ fn is_right(counters: &Counters<'_>, entry: L2Entry, cluster_bits: u32, kept: u6
     has_none | (entry.is_copied() & is_sole)
 }
 
-// Whether this holds of the entries from an index on, as many as are looked at together. Looks at each, since
-// which of them have a flag can't be guessed.
+// Whether `is_right` holds for the `TOGETHER` entries from an index on. Tests all of them, since the
+// processor couldn't predict a branch.
 #[inline(always)]
 fn are_right(counters: &Counters<'_>, table: &L2Table, first: usize) -> bool
     requires group { first + 16 ≤ length table.now.numbers }
@@ -234,8 +235,8 @@ fn are_right(counters: &Counters<'_>, table: &L2Table, first: usize) -> bool
     right
 }
 
-// Whether the entries from an index on, as many as are looked at together, are copied ones with the offsets
-// of clusters that follow one another, from this cluster on.
+// Whether the `TOGETHER` entries from an index on all have the copied flag and name consecutive clusters,
+// from this one on.
 #[inline(always)]
 fn are_copied_from(table: &L2Table, first: usize, start: HostCluster) -> bool
     requires group { first + 16 ≤ length table.now.numbers }
@@ -254,7 +255,7 @@ fn are_copied_from(table: &L2Table, first: usize, start: HostCluster) -> bool
     in_a_row
 }
 
-// The same as `are_right`, where the entries are data in a row.
+// `are_right` for entries that name consecutive clusters.
 #[inline(always)]
 #[tactic(auto, using(crate::proofs::FlagsLemmas::sole_is_right))]
 fn are_right_in_a_row(counters: &Counters<'_>, table: &L2Table, first: usize) -> bool
@@ -266,14 +267,14 @@ fn are_right_in_a_row(counters: &Counters<'_>, table: &L2Table, first: usize) ->
     let cluster_bits = table.cluster_bits();
     let start = cluster_at(entry_at(table, first), cluster_bits);
     let last = cluster_at(entry_at(table, first + 15), cluster_bits);
-    // Mostly the last of them shows whether they are.
+    // The last entry mostly decides this.
     last.0 == start.0 + 15
         && are_copied_from(table, first, start)
         && counters.are_kept_sole(start, TOGETHER)
 }
 
-// Whether a group of entries that are looked at together begins at an index, and no flag of theirs is wrong.
-// Perhaps not where counters of theirs aren't in the block that is kept.
+// Whether the entry at an index begins a group of `TOGETHER` entries whose copied flags are all right. May
+// return false for right ones, as when their refcounts aren't in the cached block.
 #[inline]
 #[tactic(auto, using(crate::proofs::FlagsLemmas::nothing_has_no_flag))]
 fn starts_right(counters: &Counters<'_>, table: &L2Table, index: usize) -> bool
@@ -292,8 +293,8 @@ fn starts_right(counters: &Counters<'_>, table: &L2Table, index: usize) -> bool
         && (are_right_in_a_row(counters, table, index) || are_right(counters, table, index))
 }
 
-// The next wrong flag in the L2 table of an L1 entry, from the entry at a position on. The position comes to
-// be that of the entry after it, or the table's end.
+// The next wrong flag in an L2 table, from the entry at `position` on. Moves `position` past its entry, or to
+// the table's end.
 fn next_in_table<S: Storage>(
     counters: &mut Counters<'_>,
     image: &mut S,
@@ -338,7 +339,8 @@ impl<'a> Flags<'a> {
     ghost use Rattle.qcow2_check.specs.Findings.{IsLaterFault};
     ghost use Rattle.qcow2_check.specs.Flags.{GoesFurther, IsFlagsOf, MovesFlags, PassesFlag, StepsFurther, TakesFlag, flags_left};
 
-    /// A reader of the wrong flags of the image that these are of, before the first of them.
+    /// A reader before the first wrong flag. The L1 table and the refcounts must be those of one image with
+    /// this header.
     pub(crate) fn new(header: &'a Header, l1_table: L1Table, counters: Counters<'a>) -> Flags<'a>
         requires geometry { l1_table.geometry ≡ geometry_of header.now }
         requires entries { length l1_table.numbers ≤ most_l1_entries }
@@ -362,10 +364,10 @@ impl<'a> Flags<'a> {
         }
     }
 
-    /// The next wrong flag, or nothing after the last.
+    /// Returns the next wrong flag, or `None` after the last.
     ///
-    /// Fails where the storage does or memory runs out, and can be called again then. The image must be the
-    /// one that the reader was made for, unchanged since. Changes no byte.
+    /// Fails if the storage fails or memory runs out, and can be called again then. The image must be the one
+    /// that the reader was made for, unchanged since. Changes no byte.
     pub fn next<S: Storage>(&mut self, image: &mut S) -> Result<Option<WrongFlag>, Fault>
         requires { OnImage (S.state image.old) (λ bytes. IsFlagsOf bytes self.old) }
         ensures flag { OnImage (S.state image.old) (λ bytes.
@@ -383,14 +385,14 @@ impl<'a> Flags<'a> {
         Ok(None)
     }
 
-    /// The reader's counters. The memory of its tables is given back.
+    /// The reader of refcounts. Frees the memory of the tables.
     pub fn into_counters(self) -> Counters<'a>
         ensures { result ≡ self.entry.counters }
     {
         self.counters
     }
 
-    // Goes on to the table of the reader's L1 entry, or within it.
+    // Opens the L2 table of the reader's L1 entry, or goes on within it if it is open.
     fn step<S: Storage>(&mut self, image: &mut S) -> Result<Option<WrongFlag>, Fault>
         requires index { self.old.index < length self.old.l1 }
         requires reader { OnImage (S.state image.old) (λ bytes. IsFlagsOf bytes self.old) }
@@ -408,8 +410,8 @@ impl<'a> Flags<'a> {
         }
     }
 
-    // Goes past the entries of the table that is held, up to the next whose flag is wrong, and then past the
-    // table.
+    // Moves the reader past the open table's next wrong flag and returns it, or past the table if there is
+    // none.
     fn pass_entries<S: Storage>(&mut self, image: &mut S) -> Result<Option<WrongFlag>, Fault>
         requires table { IsSome self.old.table }
         requires reader { OnImage (S.state image.old) (λ bytes. IsFlagsOf bytes self.old) }
@@ -429,15 +431,15 @@ impl<'a> Flags<'a> {
             &mut self.position,
         )?;
         if found.is_none() {
-            // Its memory is given back before the next table takes as much.
+            // Free its memory before the next table takes as much.
             self.table = None;
             self.index += 1;
         }
         Ok(found)
     }
 
-    // Looks at the flag of the reader's L1 entry, and loads the table that it names. Goes past an entry that
-    // names none.
+    // Opens the L2 table of the reader's L1 entry, and returns the entry's own copied flag if it is wrong.
+    // Skips an entry that names no table.
     fn open_table<S: Storage>(&mut self, image: &mut S) -> Result<Option<WrongFlag>, Fault>
         requires table { self.old.table ≡ None }
         requires index { self.old.index < length self.old.l1 }

@@ -3,8 +3,8 @@
 use qcow2_metadata::{Header, L1Table, RefTable};
 use std::marker::Model;
 
-/// The header, the active L1 table and the refcount table of one image: of the same cluster size, and with
-/// no more entries than the format allows. Clauses see them as what they say.
+/// The header, the active L1 table and the refcount table of one image. The tables have the header's cluster
+/// size and no more entries than the format allows. Contracts see the header and the entries of both.
 #[derive(Drop)]
 pub struct ImageTables<'a> {
     pub header: &'a Header,

@@ -1,4 +1,4 @@
-//! Whether an image's L1 table has an entry for each part of the guest's disk.
+//! Whether the L1 table of an image covers the guest's disk.
 
 ghost use Rattle.std.specs.Prelude.{◌≡◌, Ok};
 ghost use Rattle.qcow2_metadata.specs.Results.{unless_refused};
@@ -7,8 +7,8 @@ ghost use Rattle.qcow2_check.specs.L1Length.{is_l1_short, needed_l1_entries, sho
 use qcow2_base::{ClusterCount, Fault};
 use qcow2_metadata::Header;
 
-/// How many entries the L1 table needs for the whole disk: one for each L2 table that the disk's clusters
-/// need, the last of which may be cut. More entries do no harm.
+/// Returns the number of L1 entries that the whole disk needs: one for each L2 table, the last of which may
+/// map less than it could. More entries do no harm.
 pub fn needed_l1_entries(header: &Header) -> u64
     ensures { result ≡ needed_l1_entries header.now }
 {
@@ -17,16 +17,16 @@ pub fn needed_l1_entries(header: &Header) -> u64
     guest_clusters.0.div_ceil(1 << (cluster_bits - 3))
 }
 
-/// Whether the L1 table has fewer entries than the disk needs. What the missing entries named, as before a
-/// byte of the header was damaged, can't be known: its clusters seem to have no references.
+/// Whether the L1 table has fewer entries than the disk needs, as after damage to the header. Nothing shows
+/// what the missing entries named, so clusters in use seem to have no references.
 pub fn is_l1_short(header: &Header) -> bool
     ensures { result ≡ is_l1_short header.now }
 {
     (header.l1_table_entries() as u64) < needed_l1_entries(header)
 }
 
-/// Refuses an image with this header whose L1 table is too short for its disk, by 41. A change of such an
-/// image could free clusters that are in use.
+/// Refuses an image whose L1 table is too short for its disk (fault 41), since a change could free clusters
+/// in use.
 pub fn refuse_short_l1(header: &Header) -> Result<(), Fault>
     ensures { result ≡ unless_refused (short_l1_refusal header.now) (Ok tt) }
 {

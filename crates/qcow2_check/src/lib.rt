@@ -1,4 +1,5 @@
-//! What an image says of its own clusters: what uses each, how many uses it has, and what its counter says.
+//! What refers to the clusters of an image, how many references each has, and whether refcounts and copied
+//! flags agree.
 #![tactic(auto)]
 
 mod counters;

@@ -12,7 +12,7 @@ use qcow2_base::{Fault, HostCluster, Storage};
 use qcow2_metadata::{Header, L1Table, L2Table, RefTable, Table};
 use std::alloc::Global;
 
-/// The L1 table of an image with this header, as `L1Table::load` loads it.
+/// Loads the L1 table that a header names, by `L1Table::load`.
 #[tactic(auto, using(crate::proofs::NamedTablesLemmas::few_entries))]
 pub fn load_l1_table<S: Storage>(
     alloc: Global,
@@ -31,7 +31,7 @@ pub fn load_l1_table<S: Storage>(
     L1Table::load(alloc, image, header, cluster, header.l1_table_entries())
 }
 
-/// The refcount table of an image with this header, as `RefTable::load` loads it.
+/// Loads the refcount table that a header names, by `RefTable::load`.
 #[tactic(auto, using(crate::proofs::NamedTablesLemmas::few_blocks))]
 pub fn load_reftable<S: Storage>(
     alloc: Global,
@@ -50,7 +50,7 @@ pub fn load_reftable<S: Storage>(
     RefTable::load(alloc, image, header, cluster, header.reftable_entries())
 }
 
-/// The L2 table that begins with a cluster of an image with this header, as `L2Table::load` loads it.
+/// Loads the L2 table at a cluster, by `L2Table::load`.
 pub fn load_l2_table<S: Storage>(
     alloc: Global,
     image: &mut S,
@@ -69,8 +69,8 @@ pub fn load_l2_table<S: Storage>(
     L2Table::load(alloc, image, header, cluster, header.l2_entries())
 }
 
-/// The cluster that the L2 table of the L1 entry at an index begins with, if the entry names one. It ends by
-/// 2^56. Past the L1 table's end there is none.
+/// The cluster of the L2 table that the L1 entry at an index names, if it names one. It ends by 2^56. `None`
+/// past the L1 table's end.
 #[tactic(auto, using(crate::proofs::NamedTablesLemmas::l2_cluster_ends))]
 pub fn named_cluster(l1_table: &L1Table, index: usize) -> Option<HostCluster>
     ensures value { let cb = l1_table.now.geometry.cluster_bits in
@@ -81,8 +81,8 @@ pub fn named_cluster(l1_table: &L1Table, index: usize) -> Option<HostCluster>
     Some(offset.cluster(l1_table.cluster_bits()))
 }
 
-/// The cluster that the refcount block of the refcount table entry at an index begins with, if the entry
-/// names one. Past the refcount table's end there is none.
+/// The cluster of the refcount block that the refcount table entry at an index names, if it names one. `None`
+/// past the refcount table's end.
 #[inline]
 pub fn named_block(reftable: &RefTable, index: usize) -> Option<HostCluster>
     ensures { let cb = reftable.now.geometry.cluster_bits in

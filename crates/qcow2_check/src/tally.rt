@@ -1,4 +1,4 @@
-//! Uses of clusters, counted in memory of a bounded size.
+//! References to clusters, counted in bounded memory.
 
 ghost use Rattle.std.specs.Prelude.{◌≡◌, ℕ, ◌+◌, ◌-◌, ◌/◌, ◌^◌, ◌<◌, ◌≤◌, [], ◌∷◌, IfOk, IfSome, IsOkUnless, IsTrue, None, OnOk, false, length, replicate, slice_index};
 ghost use Rattle.qcow2_base.specs.Format.{max_file_length};
@@ -13,7 +13,7 @@ use std::alloc::Global;
 use std::collections::BTreeMap;
 use std::marker::Model;
 
-/// What uses a cluster.
+/// What refers to a cluster.
 #[derive(Clone, Copy, Debug, PartialEq, Eq)]
 pub enum TallyKind {
     /// The header, the L1 table, the refcount table, or an entry of the refcount table.
@@ -38,7 +38,7 @@ impl TallyKind {
     }
 }
 
-// The cell with one use more, if its number fits.
+// The cell with one more reference, if the count fits.
 #[inline(always)]
 fn with_use(cell: u64, kind: TallyKind) -> Option<u64>
     ensures { IfSome result (λ more. more ≡ with_use kind cell) }
@@ -46,7 +46,8 @@ fn with_use(cell: u64, kind: TallyKind) -> Option<u64>
     with_use_if(cell, kind, true)
 }
 
-// The same if the cluster is used, and else the cell as it is. Has no branch.
+// The cell with one more reference if `is_used`, else unchanged. `None` if the count doesn't fit. Has no
+// branch.
 #[inline(always)]
 fn with_use_if(cell: u64, kind: TallyKind, is_used: bool) -> Option<u64>
     ensures used { IfSome result (λ more. IsTrue is_used → more ≡ with_use kind cell) }
@@ -57,7 +58,8 @@ fn with_use_if(cell: u64, kind: TallyKind, is_used: bool) -> Option<u64>
     cell.checked_add(if is_used { more } else { 0 })
 }
 
-/// How many uses each cluster of a part of an image has. Clauses see it as cells, which count them.
+/// The number of references to each cluster in a part of an image. Contracts see cells, which count the
+/// references of a cluster and mark their kinds.
 #[derive(Drop)]
 pub struct Tally {
     first: u64,
@@ -94,9 +96,9 @@ impl Tally {
     ghost use Rattle.std.specs.Prelude.{◌≡◌, ◌+◌, ◌-◌, ◌^◌, ◌<◌, ◌≤◌, [], ◌∷◌, length, replicate};
     ghost use Rattle.qcow2_check.specs.Tally.{IsTally, cell_at, dense_end};
 
-    /// A tally in which no cluster has a use, from a cluster on. The cells of the next `dense` clusters lie
-    /// one after another, in 32 bits each or in 64, and there are at most `most` others. Fails only where
-    /// memory runs out.
+    /// A tally from a cluster on, in which no cluster has a reference. The next `dense` clusters have
+    /// consecutive cells, of 64 bits if `is_wide`, else of 32, and up to `most` clusters after them have
+    /// cells in a map. Fails only if memory runs out.
     pub(crate) fn new(
         alloc: Global,
         first: u64,
@@ -127,7 +129,7 @@ impl Tally {
         self.first
     }
 
-    /// The cluster that it ends before.
+    /// The first cluster after those that it counts.
     #[inline]
     pub fn end(&self) -> u64
         ensures value { result ≡ self.now.end }
@@ -137,7 +139,7 @@ impl Tally {
         self.end
     }
 
-    /// How many clusters have a use, perhaps with some that it ends before.
+    /// The number of clusters with a reference. May include some at or after `end`.
     pub(crate) fn used(&self) -> usize {
         self.dense.used().saturating_add(self.sparse.len())
     }
@@ -155,8 +157,8 @@ impl Tally {
         self.sparse.get(&cluster).copied().unwrap_or(0)
     }
 
-    /// Whether nothing is wrong with the clusters from one on that have these counters, and all their uses
-    /// are by guest data. Perhaps not where some of their cells aren't dense.
+    /// Whether the clusters from `first` on are known to be right, with these refcounts and with guest data
+    /// as their only references. Returns false if one of them has no dense cell.
     #[inline]
     #[tactic(auto, using(crate::proofs::TallyLemmas::plain_dense))]
     pub(crate) fn are_plain(&self, first: u64, counters: &[u64]) -> bool
@@ -172,7 +174,7 @@ impl Tally {
         self.dense.are_plain(index, counters)
     }
 
-    /// The first cluster from one on that has a use, or the limit where none before it has.
+    /// The first cluster from `from` on that has a reference, or `limit` if none before it has.
     pub(crate) fn next_used(&self, from: u64, limit: u64) -> u64
         requires from { self.now.first ≤ from }
         requires some { from ≤ limit }
@@ -192,9 +194,9 @@ impl Tally {
         }
     }
 
-    /// Counts a use of a cluster as `add` does if the cluster is used, unless its cell is none of the dense
-    /// ones or would count too many. Returns whether all is done; else nothing changes. Has no branch that
-    /// depends on whether the cluster is used.
+    /// Counts a reference to a cluster as `add` does if `is_used`. Returns false and changes nothing if the
+    /// cluster is in the tally but has no dense cell, or if its count doesn't fit. Doesn't branch on
+    /// `is_used`.
     #[inline(always)]
     pub(crate) fn try_add_if(&mut self, cluster: u64, kind: TallyKind, is_used: bool) -> bool
         ensures counted { IsTrue result → IsTrue is_used → CountsMore
@@ -214,8 +216,9 @@ impl Tally {
             || cluster >= self.end
     }
 
-    /// Counts a use of a cluster, where the tally has its cell. Where there are too many cells it ends before
-    /// the last of them.
+    /// Counts a reference to a cluster, unless the cluster lies outside the tally. If the map then has too
+    /// many cells, the tally drops the last of them and ends before its cluster. Fails if memory runs out or
+    /// the count doesn't fit (fault 35).
     pub(crate) fn add(&mut self, cluster: u64, kind: TallyKind) -> Result<(), Fault>
         ensures fault { IsOkUnless result NoMemory }
         ensures counted { OnOk result (CountsMore
@@ -230,7 +233,7 @@ impl Tally {
         self.add_sparse(cluster, kind)
     }
 
-    // The same of a cluster that is after the dense cells.
+    // `add` for a cluster after the dense cells.
     #[inline(never)]
     fn add_sparse(&mut self, cluster: u64, kind: TallyKind) -> Result<(), Fault>
         requires after { dense_end self.old ≤ cluster }
@@ -251,7 +254,7 @@ impl Tally {
     }
 }
 
-/// Whether a cell counts uses that exclude each other.
+/// Whether a cell counts references that exclude each other.
 #[inline]
 pub(crate) fn is_shared(cell: u64) -> bool
     ensures { result ≡ is_shared_cell cell }
@@ -262,7 +265,7 @@ pub(crate) fn is_shared(cell: u64) -> bool
     (is_fixed && cell / 8 > 1) || (is_table && (is_fixed || is_guest))
 }
 
-/// How many uses a cell counts.
+/// The number of references that a cell counts.
 #[inline]
 pub fn count_of(cell: u64) -> u64
     ensures { result ≡ cell / 8 }

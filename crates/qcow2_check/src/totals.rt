@@ -1,4 +1,4 @@
-//! How many clusters and flags a check finds of each kind, and the verdict on them.
+//! The sums of a check by kind of error, and the verdict on them.
 
 ghost use Rattle.std.specs.Prelude.{◌≡◌, ◌+◌, if◌then◌else◌, IfErr, IfOk, IsOkUnless};
 ghost use Rattle.qcow2_base.specs.Storage.{OnImage, OnlyReads};
@@ -14,22 +14,22 @@ use crate::verdict::Verdict;
 use qcow2_base::{Fault, Storage};
 use qcow2_metadata::Header;
 
-/// How many clusters and flags a check found of each kind. A cluster may be of several.
+/// The numbers of wrong clusters and copied flags that a check found. A cluster may count in several.
 #[derive(Clone, Copy, Debug, PartialEq, Eq)]
 pub struct Totals {
-    /// How many clusters have a counter that is greater than their number of uses.
+    /// Clusters whose refcount is greater than their number of references.
     pub leaked: u64,
-    /// How many have a smaller one.
+    /// Clusters whose refcount is smaller than their number of references.
     pub missing: u64,
-    /// How many have uses that exclude each other.
+    /// Clusters whose references exclude each other.
     pub shared: u64,
-    /// How many copied flags are set in an entry whose cluster has a counter other than 1.
+    /// Copied flags that are set though the cluster's refcount isn't 1.
     pub false_flags: u64,
-    /// How many aren't set, though the counter is 1 or there is none.
+    /// Copied flags that aren't set though the refcount is 1 or the cluster has none.
     pub late_flags: u64,
 }
 
-// The sum of two numbers. No image has that many clusters or flags that it doesn't fit.
+// The sum of two numbers. No image has enough clusters or flags to overflow it.
 fn sum(total: u64, more: u64) -> Result<u64, Fault>
     ensures fault { IsOkUnless result NoMemory }
     ensures sum { IfOk result (λ sum. sum ≡ total + more) }
@@ -37,7 +37,7 @@ fn sum(total: u64, more: u64) -> Result<u64, Fault>
     total.checked_add(more).ok_or(Fault::NoMemory)
 }
 
-// That many clusters where they are of a kind, else none.
+// `count` if the clusters are of a kind, else 0.
 fn count_if(is_kind: bool, count: u64) -> u64
     ensures { result ≡ (if is_kind then count else 0) }
 {
@@ -45,7 +45,7 @@ fn count_if(is_kind: bool, count: u64) -> u64
 }
 
 impl Totals {
-    /// Nothing was found yet.
+    /// The totals before anything is found.
     pub fn new() -> Totals
         ensures { result ≡ no_totals }
     {
@@ -58,8 +58,7 @@ impl Totals {
         }
     }
 
-    /// These totals with that many clusters more, each with this finding. Fails where a sum doesn't fit 64
-    /// bits, by 35.
+    /// Adds `count` clusters with this finding to the totals. Fails if a sum doesn't fit 64 bits (fault 35).
     pub fn with_clusters(self, finding: &Finding, count: u64) -> Result<Totals, Fault>
         ensures fault { IsOkUnless result NoMemory }
         ensures totals { IfOk result (λ totals. totals ≡ with_clusters self finding.now count) }
@@ -72,7 +71,7 @@ impl Totals {
         })
     }
 
-    /// These totals with a flag more. Fails where a sum doesn't fit 64 bits, by 35.
+    /// Adds a wrong flag to the totals. Fails if a sum doesn't fit 64 bits (fault 35).
     pub fn with_flag(self, flag: &WrongFlag) -> Result<Totals, Fault>
         ensures fault { IsOkUnless result NoMemory }
         ensures totals { IfOk result (λ totals. totals ≡ with_flag self flag.now) }
@@ -84,9 +83,9 @@ impl Totals {
         })
     }
 
-    /// These totals with all wrong flags that a reader has left.
+    /// Adds all wrong flags that a reader has left to the totals.
     ///
-    /// Fails where the storage does or memory runs out. Changes no byte.
+    /// Fails if the storage fails or memory runs out. Changes no byte.
     pub fn with_flags_left<S: Storage>(
         self,
         flags: &mut Flags<'_>,
@@ -106,9 +105,9 @@ impl Totals {
         Ok(totals)
     }
 
-    /// How many of these are corruptions in an image with this header: those that QEMU counts, and one
-    /// more where the L1 table is too short for the disk, of which QEMU opens no image. Fails where the sum
-    /// doesn't fit 64 bits, by 35.
+    /// Returns the number of corruptions in an image with this header: those that QEMU counts, and one more
+    /// if the L1 table is too short for the disk, since QEMU doesn't open such an image. Fails if the sum
+    /// doesn't fit 64 bits (fault 35).
     #[tactic(auto, unfolding(crate::specs::Totals::corruptions_in))]
     pub fn corruptions(&self, header: &Header) -> Result<u64, Fault>
         ensures fault { IsOkUnless result NoMemory }
@@ -118,14 +117,14 @@ impl Totals {
         sum(found, u64::from(is_l1_short(header)))
     }
 
-    // Whether nothing was found that may destroy data.
+    // Whether the check found nothing that may destroy data.
     fn harms_nobody(&self) -> bool
         ensures { result ≡ harms_nobody self.now }
     {
         self.missing == 0 && self.shared == 0 && self.false_flags == 0
     }
 
-    /// The verdict on what was found, whatever the image's header says.
+    /// The verdict on the findings alone, whatever the header says.
     pub fn found_verdict(&self) -> Verdict
         ensures { result ≡ verdict_of self.now }
     {
@@ -138,8 +137,8 @@ impl Totals {
         }
     }
 
-    /// The verdict on an image with this header. An L1 table that is too short for the disk hides references,
-    /// so clusters that seem to be leaked may be in use.
+    /// The verdict on an image with this header. An L1 table too short for the disk hides references, so
+    /// clusters that seem leaked may be in use: the verdict is then `Harmful`.
     pub fn verdict(&self, header: &Header) -> Verdict
         ensures { result ≡ verdict_in header.now self.now }
     {

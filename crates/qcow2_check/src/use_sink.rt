@@ -1,4 +1,4 @@
-//! What takes the uses of an image, one after another.
+//! The trait of sinks, which the walk hands an image's references one after another.
 
 ghost use Rattle.std.specs.Prelude.{◌<◌, List, [], ◌∷◌, ◌++◌, IsOkUnless, OnOk};
 ghost use Rattle.qcow2_base.specs.Format.{most_l1_entries};
@@ -10,22 +10,22 @@ use crate::uses::{Use, entry_use};
 use qcow2_base::Fault;
 use qcow2_metadata::{L2Table, Table};
 
-/// What takes the uses of an image, one after another, as the walk over an image comes to them.
+/// A receiver of an image's references, in the order of the walk.
 ///
-/// An implementor defines by `takes` how a list of uses changes it. It proves that no uses change nothing,
-/// and that a list taken after another is the same as both in one.
+/// An implementor defines by `takes` how a list of references changes it. It proves that an empty list
+/// changes nothing, and that two lists in a row change it as their concatenation does.
 pub trait UseSink {
-    /// A sink that takes these uses, in this order, becomes another.
+    /// Taking these references, in this order, turns the first sink into the second.
     ghost takes: { List AnyUse → Self → Self → Type 0 };
 
-    /// Takes one use. Fails only where memory runs out.
+    /// Takes one reference. Fails only if memory runs out.
     fn take(&mut self, used: Use) -> Result<(), Fault>
         requires { IsOwned used }
         ensures fault { IsOkUnless result NoMemory }
         ensures taken { OnOk result (takes (used ∷ []) self.old self.new) };
 
-    /// Takes the references of all entries of an L2 table, in order. The index is that of the L1 entry that
-    /// names the table. A sink that has a faster way over a whole table has a body of its own.
+    /// Takes the references of all entries of an L2 table, in order. `l1_index` is the index of the L1 entry
+    /// that names the table. Override it for a faster way over whole tables.
     fn take_table(&mut self, table: &L2Table, l1_index: usize) -> Result<(), Fault>
         requires { l1_index < most_l1_entries }
         ensures fault { IsOkUnless result NoMemory }

@@ -1,4 +1,4 @@
-//! What an image uses: host clusters, and who refers to them.
+//! The references of an image to its host clusters.
 
 ghost use Rattle.std.specs.Prelude.{◌≡◌, IfSome, ◌+◌, ◌*◌, ◌<◌, option_to_list, slice_index};
 ghost use Rattle.qcow2_base.specs.Format.{most_l1_entries};
@@ -8,7 +8,7 @@ ghost use Rattle.qcow2_check.specs.Walk.{IsOwned, entry_list, one_use};
 use qcow2_base::{ClusterCount, GuestCluster, HostCluster};
 use qcow2_metadata::{ClustersToFreeEntry, L2Table, Table, TableEntry};
 
-/// What clusters are used as.
+/// What host clusters serve as.
 #[derive(Clone, Copy, Debug, PartialEq, Eq)]
 pub enum UseKind {
     /// The header, in cluster 0.
@@ -21,26 +21,26 @@ pub enum UseKind {
     RefcountBlock,
     /// An L2 table.
     L2Table,
-    /// A cluster of guest data, or one that is kept for zeros.
+    /// Guest data, or the cluster of a zero entry.
     Data,
     /// Compressed data of one guest cluster.
     Compressed,
 }
 
-/// One reference of an image to host clusters.
+/// One reference to consecutive host clusters.
 #[derive(Clone, Copy, Debug, PartialEq, Eq)]
 pub struct Use {
-    /// What the clusters are used as.
+    /// What the clusters serve as.
     pub kind: UseKind,
-    /// Which clusters.
+    /// The clusters.
     pub clusters: ClustersToFreeEntry,
-    /// Who refers to them, by the kind: the index of a refcount table entry for a block, of an L1 entry for
-    /// an L2 table, and the guest cluster for data. 0 where the header does.
+    /// What refers to them: for a block the index of its refcount table entry, for an L2 table that of its L1
+    /// entry, for data the guest cluster, for all else 0.
     pub owner: u64,
 }
 
 impl Use {
-    /// A use of that many clusters from one on.
+    /// A reference to `count` clusters from `first` on.
     #[inline]
     pub fn new(kind: UseKind, first: HostCluster, count: u64, owner: u64) -> Use
         ensures { result ≡ one_use kind first count owner }
@@ -54,8 +54,8 @@ impl Use {
     }
 }
 
-/// The reference of the entry at an index of an L2 table, which the L1 entry at another index names. None
-/// where guest data lies in an external data file.
+/// The reference of an L2 entry, where `l1_index` is the index of the L1 entry that names the table. `None`
+/// if the entry refers to no cluster or guest data lies in an external data file.
 #[inline]
 #[tactic(auto, using(crate::proofs::UsesLemmas::guest_fits))]
 pub(crate) fn entry_use(table: &L2Table, l1_index: usize, index: usize) -> Option<Use>

@@ -3,20 +3,21 @@
 ghost use Rattle.std.specs.Prelude.{◌≡◌};
 ghost use Rattle.qcow2_check.specs.Verdict.{status_of_verdict};
 
-/// What a run found of its image. Every command but `check` returns `Fine`.
+/// The verdict of a command on its image. Every command but `check` returns `Fine`.
 #[derive(Clone, Copy, Debug, PartialEq, Eq)]
 pub enum Verdict {
-    /// Nothing that is wrong, or nothing was looked for.
+    /// Nothing is wrong, or nothing was checked.
     Fine,
-    /// Only what costs space, or a copy of a cluster: it harms nobody's data.
+    /// Nothing but leaked clusters and copied flags that aren't set: they waste space or cost a copy, and
+    /// harm no data.
     Harmless,
-    /// Something that may destroy data.
+    /// Damage that may destroy data.
     Harmful,
 }
 
 impl Verdict {
-    /// The status of a program whose run ended so: 0, 3 or 4. The others, 1 and 2, are of runs that failed
-    /// and of words that are no command.
+    /// The exit status of a program that ends with this verdict: 0, 3 or 4. Statuses 1 and 2 are for runs
+    /// that failed and for invalid command lines.
     pub fn status(self) -> u8
         ensures { result ≡ status_of_verdict self }
     {

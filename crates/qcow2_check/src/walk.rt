@@ -1,4 +1,4 @@
-//! The walk over all that an image uses: where its tables lie, and what they refer to.
+//! The walk over all references of an image: those to its tables, and those in the tables.
 
 ghost use Rattle.std.specs.Prelude.{◌≡◌, ℕ, ◌+◌, ◌<◌, ◌≤◌, [], ◌∷◌, IsOkUnless, OnOk, length, slice_index};
 ghost use Rattle.qcow2_base.specs.Format.{most_l1_entries, most_reftable_entries};
@@ -18,7 +18,7 @@ use crate::uses::{Use, UseKind};
 use qcow2_base::{ClusterCount, Fault, HostCluster, Storage};
 use qcow2_metadata::{Header, L1Table, RefTable, Table};
 
-/// Takes what a header says of itself: its cluster, and those of the L1 table and of the refcount table.
+/// Takes the references of a header: to its own cluster, the L1 table and the refcount table.
 pub fn walk_header<U: UseSink>(header: &Header, sink: &mut U) -> Result<(), Fault>
     ensures fault { IsOkUnless result NoMemory }
     ensures taken { OnOk result (U.takes (header_list header.now) sink.old sink.new) }
@@ -41,7 +41,7 @@ pub fn walk_header<U: UseSink>(header: &Header, sink: &mut U) -> Result<(), Faul
     ))
 }
 
-// Takes the block that the refcount table entry at an index names.
+// Takes the refcount block that a refcount table entry names.
 #[inline]
 fn take_block<U: UseSink>(reftable: &RefTable, index: usize, sink: &mut U) -> Result<(), Fault>
     requires { index < most_reftable_entries }
@@ -69,7 +69,7 @@ pub fn walk_blocks<U: UseSink>(reftable: &RefTable, sink: &mut U) -> Result<(), 
     Ok(())
 }
 
-// Takes the L2 table that the L1 entry at an index names.
+// Takes the L2 table that an L1 entry names.
 #[inline]
 fn take_l2_table<U: UseSink>(l1_table: &L1Table, index: usize, sink: &mut U) -> Result<(), Fault>
     requires { index < most_l1_entries }
@@ -83,7 +83,7 @@ fn take_l2_table<U: UseSink>(l1_table: &L1Table, index: usize, sink: &mut U) -> 
     }
 }
 
-/// Takes the L2 tables that an L1 table names, themselves.
+/// Takes the L2 tables that an L1 table names, but not what their entries refer to.
 pub fn walk_l2_tables<U: UseSink>(l1_table: &L1Table, sink: &mut U) -> Result<(), Fault>
     requires { length l1_table.now.numbers ≤ most_l1_entries }
     ensures fault { IsOkUnless result NoMemory }
@@ -97,8 +97,8 @@ pub fn walk_l2_tables<U: UseSink>(l1_table: &L1Table, sink: &mut U) -> Result<()
     Ok(())
 }
 
-/// Takes what an image's tables use themselves, by `walk_header`, `walk_blocks` and `walk_l2_tables`. Reads
-/// nothing of the image, and fails only where memory runs out.
+/// Takes the references to the tables themselves, by `walk_header`, `walk_blocks` and `walk_l2_tables`. Reads
+/// nothing of the image, and fails only if memory runs out.
 pub fn walk_tables<U: UseSink>(tables: &ImageTables<'_>, sink: &mut U) -> Result<(), Fault>
     ensures fault { IsOkUnless result NoMemory }
     ensures taken { OnOk result (U.takes (tables_list tables.now) sink.old sink.new) }
@@ -108,7 +108,7 @@ pub fn walk_tables<U: UseSink>(tables: &ImageTables<'_>, sink: &mut U) -> Result
     walk_l2_tables(tables.l1_table, sink)
 }
 
-// Loads the L2 table that begins with a cluster, and takes what its entries refer to.
+// Loads the L2 table at a cluster, and takes the references of its entries.
 fn walk_table<S: Storage, U: UseSink>(
     tables: &ImageTables<'_>,
     image: &mut S,
@@ -130,7 +130,7 @@ fn walk_table<S: Storage, U: UseSink>(
     sink.take_table(&table, index)
 }
 
-// Takes what the entries refer to of the L2 table that an L1 entry names.
+// Takes the references of the L2 table that an L1 entry names.
 fn walk_l1_entry<S: Storage, U: UseSink>(
     tables: &ImageTables<'_>,
     image: &mut S,
@@ -151,9 +151,9 @@ fn walk_l1_entry<S: Storage, U: UseSink>(
     }
 }
 
-/// Takes what the guest's disk uses, in its order: what the entries of each L2 table refer to.
+/// Takes the references of all L2 entries, in the order of the guest's disk.
 ///
-/// Fails where an L2 table does, by the fault of its load, and where memory runs out. Changes no byte.
+/// Fails with the fault of an L2 table that doesn't load, or if memory runs out. Changes no byte.
 pub fn walk_guest<S: Storage, U: UseSink>(
     tables: &ImageTables<'_>,
     image: &mut S,
@@ -170,7 +170,8 @@ pub fn walk_guest<S: Storage, U: UseSink>(
     Ok(())
 }
 
-/// Takes all that an image uses: what `walk_tables` takes, and then what `walk_guest` does.
+/// Takes all references of an image: those of `walk_tables`, and then those of `walk_guest`. Fails as
+/// `walk_guest` does.
 pub fn walk_uses<S: Storage, U: UseSink>(
     tables: &ImageTables<'_>,
     image: &mut S,

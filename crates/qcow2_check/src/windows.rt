@@ -1,4 +1,4 @@
-//! Which clusters' uses are counted at once.
+//! The choice of the clusters whose references are counted at once.
 
 ghost use Rattle.std.specs.Prelude.{◌≡◌, ◌+◌, ◌*◌, ◌<◌, ◌≤◌, IfOk, false};
 ghost use Rattle.qcow2_base.specs.Format.{max_file_length};
@@ -18,20 +18,21 @@ use crate::tally::Tally;
 use qcow2_base::{Fault, MAX_FILE_LENGTH, Storage};
 use qcow2_metadata::Table;
 
-// The fewest cells that lie one after another.
+// The fewest dense cells of a window.
 const FEW_CELLS: usize = 4096;
 
-// How many bytes they take at most. Narrow ones are enough for 1 TiB in clusters of 64 KiB, and its tables.
+// The most bytes that dense cells take. If they are narrow, that suffices for 1 TiB in clusters of 64 KiB,
+// and its tables.
 const MOST_BYTES: usize = 68 << 20;
 
-// How many other cells there are at most.
+// The most cells in the map.
 const MOST_SPARSE: usize = 1 << 20;
 
-// How many uses of a cluster fit no narrow cell.
+// The smallest number of references that doesn't fit a narrow cell.
 const MANY_USES: u64 = 1 << 29;
 
-// Clusters whose uses are counted at once: `dense` of them from the first on, whose cells lie one after
-// another, and at most `most` others. The cells are wide or narrow.
+// Clusters whose references are counted at once: the `dense` ones from `first` on, with consecutive cells,
+// and up to `most` others. The cells are wide or narrow.
 #[derive(Clone, Copy)]
 struct Window {
     first: u64,
@@ -40,7 +41,7 @@ struct Window {
     is_wide: bool,
 }
 
-// How many cells lie one after another in a window, by how many clusters from it on the blocks count.
+// The number of dense cells in a window, given how many clusters from its first on the refcount blocks count.
 fn dense_cells(counted: u64, is_wide: bool) -> usize
     ensures some { 0 < result }
     ensures bytes { result * cell_bytes is_wide ≤ most_cell_bytes }
@@ -54,14 +55,14 @@ fn dense_cells(counted: u64, is_wide: bool) -> usize
     counted.clamp(FEW_CELLS as u64, most as u64) as usize
 }
 
-/// The windows of an image: clusters whose uses are counted at once, in memory of a bounded size. How many
-/// there are is chosen for one window after another.
+/// The windows of an image: groups of clusters whose references are counted at once, in bounded memory. The
+/// size of each window depends on those before it.
 #[derive(Clone, Copy)]
 pub struct Windows {
-    // The end of the clusters that the refcount blocks count.
+    // The first cluster after all those that the refcount blocks count.
     counted: u64,
     is_wide: bool,
-    // Whether a window so far had few clusters that have uses, so that the next are mostly a map of these.
+    // Whether an earlier window had few clusters with references: later windows then use mostly the map.
     is_sparse: bool,
 }
 
@@ -98,10 +99,10 @@ impl Windows {
         }
     }
 
-    /// Counts all uses of clusters from one on, in a new tally, as many clusters at once as fit. The next
-    /// windows are chosen by how many of them have a use.
+    /// Counts all references to clusters from `first` on in a new tally, for as many clusters as fit. Their
+    /// number decides the shape of later windows.
     ///
-    /// Fails where an L2 table does, by the fault of its load, and where memory runs out. Changes no byte.
+    /// Fails with the fault of an L2 table that doesn't load, or if memory runs out. Changes no byte.
     pub fn count<S: Storage>(
         &mut self,
         image: &mut S,

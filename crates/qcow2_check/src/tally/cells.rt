@@ -1,4 +1,4 @@
-//! Cells in memory that lie one after another: one number each, in integers of 32 or of 64 bits.
+//! Consecutive cells in memory, in integers of 32 or 64 bits each.
 
 ghost use Rattle.std.specs.Prelude.{◌≡◌, ◌↔◌, ℕ, ◌+◌, ◌<◌, ◌≤◌, IfOk, IsTrue, false, length, replicate, slice_index, slice_set};
 ghost use Rattle.qcow2_check.specs.Tally.{IsPlain, with_use};
@@ -7,7 +7,7 @@ ghost use Rattle.qcow2_check.specs.Tally.Cells.{kept_cells};
 use super::{TallyKind, with_use_if};
 use std::alloc::{AllocError, Global};
 
-// Whether a cell counts as many uses as the counter says, all of them by guest data.
+// Whether a cell has as many references as the refcount says, all of them by guest data.
 #[inline]
 fn is_plain(cell: u64, counter: u64) -> bool
     ensures { IsTrue result ↔ IsPlain cell counter }
@@ -15,7 +15,7 @@ fn is_plain(cell: u64, counter: u64) -> bool
     (cell / 8 == counter) & (cell % 4 == 0)
 }
 
-// Whether all cells do. Looks at each, so that several are compared at once.
+// Whether `is_plain` holds for all cells. Tests each, so that the compiler can compare several at once.
 fn are_plain_narrow(cells: &[u32], counters: &[u64]) -> bool
     requires { length cells.now ≡ length counters.now }
     ensures { IsTrue result → (k : ℕ) → k < length counters.now →
@@ -28,7 +28,7 @@ fn are_plain_narrow(cells: &[u32], counters: &[u64]) -> bool
     plain
 }
 
-// The same of wide cells.
+// The same for wide cells.
 fn are_plain_wide(cells: &[u64], counters: &[u64]) -> bool
     requires { length cells.now ≡ length counters.now }
     ensures { IsTrue result → (k : ℕ) → k < length counters.now →
@@ -41,7 +41,7 @@ fn are_plain_wide(cells: &[u64], counters: &[u64]) -> bool
     plain
 }
 
-/// A list of cells. A narrow one counts at most 2^29 - 1 uses.
+/// Consecutive cells. A narrow one counts up to 2^29 - 1 references.
 #[derive(Drop)]
 pub(super) enum Cells {
     Narrow(Vec<u32>),
@@ -79,8 +79,8 @@ impl Cells {
         }
     }
 
-    // Counts a use in a cell if the cluster is used. Returns whether there is the cell and its number fits;
-    // else nothing changes.
+    // Counts a reference in a cell if `is_used`. Returns false and changes nothing if the index is past the
+    // end or the count doesn't fit.
     #[inline(always)]
     pub(super) fn add_if(&mut self, index: usize, kind: TallyKind, is_used: bool) -> bool
         ensures counted { IsTrue result → IsTrue is_used → (index < length (kept_cells self.old))
@@ -111,7 +111,7 @@ impl Cells {
         true
     }
 
-    // Whether each cell from an index on counts as many uses as its counter says, all of them by guest data.
+    // Whether `is_plain` holds for the cells from an index on, with these refcounts.
     #[inline]
     pub(super) fn are_plain(&self, index: usize, counters: &[u64]) -> bool
         requires { index + length counters.now ≤ length (kept_cells self.now) }
@@ -124,7 +124,7 @@ impl Cells {
         }
     }
 
-    // How many cells count a use.
+    // The number of cells that count a reference.
     pub(super) fn used(&self) -> usize {
         match self {
             Cells::Narrow(list) => list.iter().filter(|cell| **cell != 0).count(),
