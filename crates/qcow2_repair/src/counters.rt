@@ -1,5 +1,5 @@
-//! A pass of a repair over counters: those that are less than the uses of their clusters rise, or those that
-//! are greater fall.
+//! A repair's passes over refcounts: one raises those that are lower than the number of references, another
+//! lowers those that are higher.
 
 ghost use Rattle.std.specs.Prelude.{◌≡◌, ℕ, ◌⊎◌, ◌+◌, ◌/◌, ◌^◌, ◌<◌, ◌≤◌, IfErr, IfOk, IfSome, MatchResult, None, OnOk, Some, length, slice_index, slice_set, true};
 ghost use Rattle.qcow2_base.specs.Format.{max_file_length};
@@ -20,17 +20,17 @@ use qcow2_base::{Device, Fault, HostCluster, MAX_FILE_LENGTH, Storage};
 use qcow2_check::{ImageTables, Tally, count_of, counted_end, named_block};
 use qcow2_metadata::{RefBlock, Table};
 
-/// Which counters a pass changes.
+/// The refcounts that a pass changes.
 #[derive(Clone, Copy)]
 pub(crate) enum CounterPass {
-    /// Those that are less than the uses of their clusters.
+    /// Raises those that are lower than the number of references.
     Rise,
-    /// Those that are greater.
+    /// Lowers those that are higher.
     Fall,
 }
 
 impl CounterPass {
-    // A counter after the pass, by the uses of its cluster.
+    // The refcount that the pass leaves, where `uses` is the number of references.
     #[inline]
     fn counter(self, uses: u64, counter: u64) -> u64
         ensures { result ≡ counter_towards self uses counter }
@@ -42,7 +42,8 @@ impl CounterPass {
     }
 }
 
-/// Counters of a block, from an index to before another. The block's first is that of cluster `first`.
+/// The refcounts of a block from index `from` to before `to`. The block's first refcount is that of cluster
+/// `first`.
 #[derive(Clone, Copy)]
 struct BlockPart {
     first: u64,
@@ -50,8 +51,8 @@ struct BlockPart {
     to: usize,
 }
 
-// Passes over the counter at an index of a block, by the uses of its cluster. Refuses uses that a counter
-// can't hold, and changes nothing then.
+// Raises or lowers one refcount of a block to the number of references. Refuses a number that the refcount
+// can't hold (fault 30), and then changes nothing.
 fn pass_counter(
     block: &mut RefBlock,
     index: usize,
@@ -75,8 +76,8 @@ fn pass_counter(
     Ok(())
 }
 
-// Passes over counters of a block, by the uses that a tally has counted. Refuses uses that a counter can't
-// hold.
+// Raises or lowers refcounts of a block to the numbers of references that a tally has counted. Refuses a
+// number that a refcount can't hold (fault 30).
 fn pass_counters(
     block: &mut RefBlock,
     tally: &Tally,
@@ -101,7 +102,8 @@ fn pass_counters(
     Ok(())
 }
 
-// Passes over counters of the block that begins with a cluster of an image with this header.
+// Loads the refcount block at a cluster, raises or lowers some of its refcounts, and writes it if one has
+// changed.
 fn pass_block<S: Storage>(
     image: &mut S,
     tables: &ImageTables<'_>,
@@ -130,8 +132,8 @@ fn pass_block<S: Storage>(
     block.write_if_modified(image, cluster)
 }
 
-// Passes over counters of the block of a cluster, from this one's on. Returns the cluster after the last of
-// them.
+// Raises or lowers the refcounts from a cluster on that its block and one window have. Returns the cluster
+// after the last of them. Skips the range of a block that the image lacks.
 #[tactic(auto, using(crate::proofs::CountersLemmas::place_of_named))]
 fn pass_from<S: Storage>(
     image: &mut S,
@@ -173,7 +175,7 @@ fn pass_from<S: Storage>(
     Ok(end)
 }
 
-/// Passes over all counters of an image with these tables, and waits until they are on the device.
+/// Raises or lowers all refcounts of an image with these tables, and syncs them to the device.
 pub(crate) fn pass_all_counters<S: Device>(
     image: &mut S,
     tables: &ImageTables<'_>,

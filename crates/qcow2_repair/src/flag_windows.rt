@@ -1,4 +1,4 @@
-//! A pass of a repair over all copied flags of an image, by windows of the clusters whose uses are counted.
+//! A repair's pass over all copied flags of an image, by windows of clusters whose references are counted.
 
 ghost use Rattle.std.specs.Prelude.{◌≡◌, ◌<◌, ◌≤◌, IfErr, IfOk, IfSome, IsOkUnless, MatchResult, None, OnOk, Option, Some, false, length};
 ghost use Rattle.qcow2_base.specs.Format.{max_file_length};
@@ -20,7 +20,7 @@ use qcow2_base::{Device, Fault, Storage};
 use qcow2_check::{ImageTables, counted_end};
 use qcow2_metadata::{Header, L1Table, RefTable, Table};
 
-// Writes the L1 table of an image with this header, if it is modified.
+// Writes the L1 table if it is modified.
 fn write_l1_table<S: Storage>(
     image: &mut S,
     header: &Header,
@@ -45,8 +45,8 @@ fn write_l1_table<S: Storage>(
     Ok(())
 }
 
-// Passes over the flags of entries whose clusters a window has, from this cluster on. Returns the end of the
-// window.
+// Corrects the copied flags of entries that name clusters of one window, which begins with cluster `first`.
+// Returns the window's end.
 #[tactic(auto, using(crate::proofs::FlagWindowsLemmas::l1_fits))]
 fn pass_window<S: Storage>(
     image: &mut S,
@@ -95,9 +95,9 @@ fn pass_window<S: Storage>(
     Ok(tally.end())
 }
 
-/// Passes over all flags of an image with these tables, and keeps the L1 table as the image has it. Waits
-/// until they are on the device. There is a window in any case, since flags in an external data file depend
-/// on no counter.
+/// Clears or sets copied flags as `flag` says, in all entries of an image with these tables that need it, and
+/// syncs them to the device. Keeps `l1_table` equal to the image's. Runs at least one window, since copied
+/// flags in an external data file depend on no refcount.
 #[tactic(auto, using(crate::proofs::FlagWindowsLemmas::l1_fits))]
 pub(crate) fn pass_all_flags<S: Device>(
     image: &mut S,

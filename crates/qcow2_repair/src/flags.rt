@@ -1,5 +1,5 @@
-//! A pass of a repair over copied flags: it clears those that are set wrongly, or sets those that are late,
-//! by the uses of the clusters that entries name.
+//! A repair's pass over copied flags: it clears those that are wrongly set, or sets those that are wrongly
+//! clear, by the references to the clusters that entries name.
 
 ghost use Rattle.std.specs.Prelude.{◌≡◌, ℕ, ◌⊎◌, ◌<◌, IfErr, MatchResult, Ok, OnOk, Some, length, map, slice_index, slice_set, true};
 ghost use Rattle.qcow2_base.specs.Storage.{OnImage, OnImages, OnlyWrites};
@@ -18,8 +18,8 @@ use qcow2_metadata::{Header, L1Table, L2Entry, L2Table, RefTable, Table, TableEn
 use std::alloc::Global;
 use std::marker::Model;
 
-/// A pass over flags, by the clusters that blocks count and by the uses that a tally has counted. It gives
-/// this flag to the entries that it is due to.
+/// A pass that gives its `flag` to the entries that need it, by the clusters that refcount blocks count and
+/// the references that a tally has counted.
 #[derive(Drop)]
 pub(crate) struct FlagPass<'a> {
     pub(crate) header: &'a Header,
@@ -46,7 +46,8 @@ impl<'a> Model for FlagPass<'a> {
 }
 
 impl FlagPass<'_> {
-    // The flag that is due to an entry which names a cluster, if one is.
+    // The right copied flag of an entry that names this cluster. `None` if no refcount block or not the tally
+    // counts the cluster.
     fn due_flag(&self, cluster: HostCluster) -> Option<bool>
         ensures { result ≡ due_flag (pass_by self.now) cluster }
     {
@@ -57,7 +58,7 @@ impl FlagPass<'_> {
         Some(count_of(self.tally.cell(cluster.0)) == 1)
     }
 
-    // The flag that is due to the L1 entry at an index.
+    // The right copied flag of the L1 entry at an index, if the pass knows it.
     fn l1_due(&self, l1_table: &L1Table, index: usize) -> Option<bool>
         requires { l1_table.now.geometry ≡ geometry_of self.now.header }
         ensures { result ≡ l1_due (pass_by self.now) (slice_index l1_table.now.numbers index) }
@@ -65,7 +66,7 @@ impl FlagPass<'_> {
         self.due_flag(named_cluster(l1_table, index)?)
     }
 
-    // The flag that is due to an L2 entry.
+    // The right copied flag of an L2 entry, if the pass knows it. In an external data file it is always set.
     fn l2_due(&self, entry: L2Entry) -> Option<bool>
         ensures { result ≡ l2_due (pass_by self.now) entry }
     {
@@ -77,7 +78,7 @@ impl FlagPass<'_> {
         self.due_flag(cluster)
     }
 
-    // Passes over the flag of the L1 entry at an index.
+    // Gives the L1 entry at an index the pass's flag if it needs it.
     #[tactic(auto, using(crate::proofs::FlagsLemmas::one_entry))]
     fn pass_l1_entry(&self, l1_table: &mut L1Table, index: usize)
         requires geometry { l1_table.old.geometry ≡ geometry_of self.now.header }
@@ -89,14 +90,14 @@ impl FlagPass<'_> {
         ensures modified { (l1_table.new ≡ l1_table.old) ⊎ (l1_table.new.modified ≡ true) }
     {
         let entry = l1_table.get(index);
-        // It fits 64 bits, since it is read as a number of these.
+        // Reading the entry as a number shows that it fits 64 bits.
         let _ = entry.to_plain();
         if self.l1_due(l1_table, index) == Some(self.flag) && entry.is_copied() != self.flag {
             l1_table.set_copied(index, self.flag);
         }
     }
 
-    // Passes over the flags of an L1 table.
+    // Gives the entries of an L1 table the pass's flag if they need it.
     #[tactic(auto, using(crate::proofs::FlagsLemmas::all_entries))]
     pub(crate) fn pass_l1(&self, l1_table: &mut L1Table)
         requires { l1_table.old.geometry ≡ geometry_of self.now.header }
@@ -110,7 +111,7 @@ impl FlagPass<'_> {
         }
     }
 
-    // Passes over the flag of the L2 entry at an index.
+    // Gives the L2 entry at an index the pass's flag if it needs it.
     #[tactic(auto, using(crate::proofs::FlagsLemmas::one_entry))]
     fn pass_l2_entry(&self, table: &mut L2Table, index: usize)
         requires geometry { table.old.geometry ≡ geometry_of self.now.header }
@@ -127,7 +128,7 @@ impl FlagPass<'_> {
         }
     }
 
-    // Passes over the flags of an L2 table.
+    // Gives the entries of an L2 table the pass's flag if they need it.
     #[tactic(auto, using(crate::proofs::FlagsLemmas::all_entries))]
     fn pass_l2(&self, table: &mut L2Table)
         requires { table.old.geometry ≡ geometry_of self.now.header }
@@ -141,7 +142,8 @@ impl FlagPass<'_> {
         }
     }
 
-    // Passes over the flags of the L2 table that begins with a cluster of the image.
+    // Loads the L2 table at a cluster, gives its entries the pass's flag if they need it, and writes it if
+    // one has changed.
     fn pass_table<S: Storage>(
         &self,
         image: &mut S,
@@ -164,7 +166,7 @@ impl FlagPass<'_> {
         table.write_if_modified(image, cluster)
     }
 
-    /// Passes over the flags of all L2 tables that an L1 table names.
+    /// Gives the entries of all L2 tables that an L1 table names the pass's flag if they need it.
     pub(crate) fn pass_tables<S: Storage>(
         &self,
         image: &mut S,

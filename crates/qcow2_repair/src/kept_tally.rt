@@ -1,4 +1,5 @@
-//! The uses of clusters that all passes of a repair go by, counted as few times as memory allows.
+//! The counted references that all passes of a repair share, so that they are counted as few times as memory
+//! allows.
 
 ghost use Rattle.std.specs.Prelude.{◌≡◌, ◌<◌, ◌≤◌, IfErr, IfSome, IsSomeAnd, OnOk};
 ghost use Rattle.qcow2_base.specs.Format.{max_file_length};
@@ -9,8 +10,8 @@ ghost use Rattle.qcow2_repair.specs.Repair.{IsRepairable};
 use qcow2_base::{Fault, Storage};
 use qcow2_check::{ImageTables, Tally, Windows};
 
-/// The uses that were counted last, which stay what they are while flags and counters change, and the
-/// windows of the image.
+/// The last counted references, which don't change while copied flags and refcounts do, and the image's
+/// windows.
 #[derive(Drop)]
 pub(crate) struct KeptTally {
     pub(crate) windows: Windows,
@@ -18,7 +19,7 @@ pub(crate) struct KeptTally {
 }
 
 impl KeptTally {
-    /// Counts the uses of a cluster and of those after it, unless they are counted.
+    /// Counts the references to a cluster and to those after it, unless this cluster's are counted.
     pub(crate) fn keep<S: Storage>(
         &mut self,
         image: &mut S,
@@ -45,7 +46,7 @@ impl KeptTally {
         self.count(image, tables, cluster)
     }
 
-    /// Counts the uses of clusters from one on, unless those that are counted begin with it.
+    /// Counts the references to the clusters from `first` on, unless the counted ones begin there.
     pub(crate) fn keep_from<S: Storage>(
         &mut self,
         image: &mut S,
@@ -72,7 +73,7 @@ impl KeptTally {
         self.count(image, tables, first)
     }
 
-    // Counts the uses of clusters from one on, as many as fit, in place of those that were counted before.
+    // Counts the references to as many clusters from `first` on as fit, in place of those counted before.
     fn count<S: Storage>(
         &mut self,
         image: &mut S,
@@ -88,7 +89,7 @@ impl KeptTally {
         ensures window { OnOk result (IsSomeAnd self.new.tally (λ tally.
             (tally.first ≡ first) × (first < tally.end) × (tally.end ≤ max_file_length))) }
     {
-        // Its memory is given back before the next window takes as much.
+        // Free its memory before the next window takes as much.
         self.tally = None;
         self.tally = Some(self.windows.count(image, tables, first)?);
         Ok(())

@@ -1,4 +1,4 @@
-//! Making what an image says of its own clusters right: the counters of clusters, and the copied flags.
+//! Repairs: make the refcounts and the copied flags of an image right.
 #![tactic(auto)]
 
 mod counters;

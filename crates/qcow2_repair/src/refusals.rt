@@ -1,5 +1,5 @@
-//! What a repair refuses before it writes: parts that aren't read here, an L1 table that is too short,
-//! uses of a cluster that exclude each other, and more uses than a counter holds.
+//! The refusals of a repair before it writes: parts whose references it can't count, an L1 table that is too
+//! short, references that exclude each other, and more references than a refcount holds.
 
 ghost use Rattle.std.specs.Prelude.{◌≡◌, ◌⊎◌, ◌≤◌, IfErr, IfOk, IfSome, MatchResult, None, Ok, Some};
 ghost use Rattle.qcow2_base.specs.Storage.{OnImage};
@@ -20,7 +20,7 @@ use qcow2_check::{Finding, Findings, Tally, refuse_short_l1, refuse_tables_past_
 use qcow2_metadata::{Header, L1Table, RefTable};
 use std::alloc::Global;
 
-// The greatest number that a counter of a refcount order holds.
+// The greatest refcount of a refcount order.
 #[tactic(auto, using(crate::proofs::RefusalsLemmas::greatest_shifted))]
 fn greatest_counter(refcount_order: u32) -> u64
     requires { refcount_order ≤ 6 }
@@ -30,7 +30,8 @@ fn greatest_counter(refcount_order: u32) -> u64
     u64::MAX >> (64 - width)
 }
 
-// Refuses what is found at a cluster, where no counter can make it right.
+// Refuses a finding that no refcount can make right: references that exclude each other (fault 38), or more
+// of them than the refcount can hold (fault 30).
 fn check_finding(findings: &Findings<'_>, finding: &Finding) -> Result<(), Fault>
     ensures refusal { let reader = findings.now in
         let refusal = refusal_of reader.header reader.counters.reftable finding.now in
@@ -47,7 +48,7 @@ fn check_finding(findings: &Findings<'_>, finding: &Finding) -> Result<(), Fault
     Ok(())
 }
 
-// Refuses the first that can't be made right of the findings that a reader comes to yet.
+// Refuses the first of a reader's remaining findings that can't be made right.
 fn check_findings<S: Storage>(findings: &mut Findings<'_>, image: &mut S) -> Result<(), Fault>
     requires { OnImage (S.state image.old) (λ bytes. IsFindingsOf bytes findings.old) }
     ensures reads { let reader = findings.old in
@@ -62,8 +63,8 @@ fn check_findings<S: Storage>(findings: &mut Findings<'_>, image: &mut S) -> Res
     Ok(())
 }
 
-// The L1 table and the refcount table by which an image can be repaired, whatever its header says of parts
-// that aren't read here and of the L1 table's length, and the uses that were counted last.
+// Loads the L1 table and the refcount table of an image whose findings can all be made right, with the last
+// counted references. Doesn't test whether the L1 table is too short.
 fn unrefused_tables<S: Storage>(
     alloc: Global,
     image: &mut S,
@@ -86,8 +87,8 @@ fn unrefused_tables<S: Storage>(
     Ok(findings.into_parts())
 }
 
-/// Refuses an image with this header that can't be repaired whatever its tables say: 37 where it has
-/// snapshots, bitmaps or LUKS encryption, 41 where its L1 table is too short for its disk.
+/// Refuses an image that can't be repaired whatever its tables say: one with snapshots, bitmaps or LUKS
+/// encryption (fault 37), or with an L1 table that is too short for its disk (fault 41).
 pub fn refuse_unrepairable(header: &Header) -> Result<(), Fault>
     ensures { result ≡ unless_refused (header_refusal header.now) (Ok tt) }
 {
@@ -97,8 +98,7 @@ pub fn refuse_unrepairable(header: &Header) -> Result<(), Fault>
     refuse_short_l1(header)
 }
 
-// Refuses an image with this header that can't be repaired: by the fault of `refuse_unrepairable`, or of
-// `refuse_tables_past_end`. Changes no byte.
+// Refuses an image by the faults of `refuse_unrepairable` and `refuse_tables_past_end`. Changes no byte.
 pub(crate) fn refuse_past_end<S: Device>(
     alloc: Global,
     image: &mut S,
@@ -111,12 +111,12 @@ pub(crate) fn refuse_past_end<S: Device>(
     refuse_tables_past_end(alloc, image, header)
 }
 
-/// The L1 table and the refcount table of an image with this header that can be repaired, and the uses that
-/// were counted last, if they are kept.
+/// Loads the L1 table and the refcount table of an image that can be repaired, with the last counted
+/// references if any are held.
 ///
-/// Returns the fault of `refuse_unrepairable` or of `Findings::new`, or that of the first cluster that
-/// can't be repaired: 38 where its uses exclude each other, 30 where its counter can't hold their number.
-/// Changes no byte.
+/// Returns the fault of `refuse_unrepairable` or of `Findings::new`, or that of the first cluster that can't
+/// be repaired: 38 if its references exclude each other, 30 if its refcount can't hold their number. Changes
+/// no byte.
 pub(crate) fn repairable_tables<S: Storage>(
     alloc: Global,
     image: &mut S,

@@ -1,4 +1,4 @@
-//! Making an image's counters and copied flags right.
+//! Repairs of an image's refcounts and copied flags.
 
 ghost use Rattle.std.specs.Prelude.{◌≡◌, ◌⊎◌, Err, IfErr, IfOk, IfSome, MatchResult, None, Ok, OnOk, true};
 ghost use Rattle.qcow2_base.specs.Storage.{Image, OnImage, OnImages};
@@ -22,21 +22,23 @@ use qcow2_check::{ImageTables, Tally, Windows};
 use qcow2_metadata::{Header, L1Table, RefTable};
 use std::alloc::Global;
 
-/// Makes the counters and the copied flags of an image with this header right, where that needs no new
-/// refcount block. Each counter becomes the number of its cluster's uses, and each flag says whether that
-/// is 1. Flags of clusters that no block counts stay, but that in an external data file all are set.
+/// Makes the refcounts and the copied flags of an image with this header right, without new refcount blocks.
+/// Each refcount becomes its cluster's number of references, and each copied flag says whether that number is
+/// 1. Flags of clusters that no refcount block counts stay as they are. Those of an external data file's
+/// clusters are all set.
 ///
-/// Returns the header as it is then: autoclear features are cleared first, as by `Header::into_writable`.
-/// Then flags are cleared of clusters that haven't one use, counters rise, counters fall, and flags are set
-/// of clusters that have one. Nothing of a step is written before `Device::sync` has put all of the one
-/// before on the device. Nothing else changes.
+/// Returns the header that the image has then. The call first clears the autoclear features, as
+/// `Header::into_writable` does, and then makes four passes: it clears the copied flags of clusters that
+/// don't have exactly one reference, raises refcounts, lowers refcounts, and sets the flags of clusters that
+/// have exactly one. `Device::sync` puts each step on the device before the next writes anything. Nothing
+/// else changes.
 ///
-/// Returns the fault of `refuse_unrepairable`, of `refuse_tables_past_end` or of `Findings::new`, or of the
-/// first cluster that can't be repaired: 38 where its uses exclude each other, 30 where its counter can't
-/// hold their number. Then comes 24, where the header has no room, or 25 for a name that no loaded header
-/// has. No byte has changed then. Where memory runs out, a part of the steps may be done, and each counter
-/// and each entry is the old one or that of its step. Where the storage fails, any bytes may be in the
-/// header's text besides, or in one table or block.
+/// Returns the fault of `refuse_unrepairable`, of `refuse_tables_past_end` or of `Findings::new`, or that of
+/// the first cluster that can't be repaired: 38 if its references exclude each other, 30 if its refcount
+/// can't hold their number. After these come 24 if the header has no room, and 25 for a name that no loaded
+/// header has. None of these faults changes a byte. If memory runs out, some steps may be done, and each
+/// refcount and each entry is the old one or that of its step. If the storage fails, any bytes may also be in
+/// the text of the header, or in one table or block.
 pub fn repair_image<S: Device>(
     alloc: Global,
     image: &mut S,
@@ -50,7 +52,7 @@ pub fn repair_image<S: Device>(
     repair_whole(alloc, image, header)
 }
 
-// The same of an image that has all tables and blocks which it names.
+// `repair_image` for an image that ends after all tables and blocks that it names.
 fn repair_whole<S: Device>(alloc: Global, image: &mut S, header: Header) -> Result<Header, Fault>
     ensures { RepairsImage header result (S.state image.old) (S.state image.new) }
 {
@@ -60,8 +62,8 @@ fn repair_whole<S: Device>(alloc: Global, image: &mut S, header: Header) -> Resu
     Ok(header)
 }
 
-// Makes counters and flags of an image with these tables right whose header is writable, once that is on the
-// device. These uses are counted.
+// Syncs the writable header to the device, and then makes the refcounts and copied flags of the image right.
+// `tally` has its counted references.
 fn repair_written<S: Device>(
     image: &mut S,
     header: &Header,
@@ -93,7 +95,7 @@ fn repair_written<S: Device>(
     repair_tables(image, header, l1_table, reftable, &mut kept)
 }
 
-// Makes counters and flags of an image with these tables right, in four passes.
+// Makes the refcounts and copied flags of an image with these tables right, in four passes.
 fn repair_tables<S: Device>(
     image: &mut S,
     header: &Header,
@@ -120,7 +122,7 @@ fn repair_tables<S: Device>(
     Ok(())
 }
 
-// Raises the counters of an image with these tables, and then lowers them.
+// Raises the refcounts of an image with these tables, and then lowers them.
 #[tactic(auto, using(crate::proofs::FlagWindowsLemmas::l1_fits))]
 fn pass_both_counters<S: Device>(
     image: &mut S,

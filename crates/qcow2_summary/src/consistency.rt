@@ -1,4 +1,4 @@
-//! Whether an image is consistent.
+//! Whether an image is consistent: refcounts, references and copied flags agree.
 
 ghost use Rattle.std.specs.Prelude.{◌≡◌, ◌⊎◌, ◌↔◌, [], Err, IfErr, IfOk, IsOkAnd, IsTrue};
 ghost use Rattle.qcow2_base.specs.Storage.{OnImage, OnlyReads};
@@ -13,8 +13,8 @@ use qcow2_check::{Findings, Flags};
 use qcow2_metadata::Header;
 use std::alloc::Global;
 
-/// Whether an image with this header is consistent: the counter of each cluster is its number of uses, no
-/// uses of a cluster exclude each other, and no copied flag is wrong.
+/// Returns whether an image with this header is consistent: each cluster's refcount is its number of
+/// references, no references to a cluster exclude each other, and no copied flag is wrong.
 ///
 /// Returns the fault of `Findings::new`. Changes no byte.
 pub fn is_consistent<S: Storage>(
@@ -33,8 +33,8 @@ pub fn is_consistent<S: Storage>(
     all_is_right(findings, image)
 }
 
-// Whether nothing is wrong with an image, by a reader of its findings that has passed no cluster yet. Gives
-// the reader's memory back.
+// Whether an image has no finding and no wrong copied flag, by a reader before its first finding. Frees the
+// reader's memory.
 fn all_is_right<S: Storage>(mut findings: Findings<'_>, image: &mut S) -> Result<bool, Fault>
     requires begun { findings.position ≡ 0 }
     requires reader { OnImage (S.state image.old) (λ bytes. IsFindingsOf bytes findings) }
@@ -49,7 +49,7 @@ fn all_is_right<S: Storage>(mut findings: Findings<'_>, image: &mut S) -> Result
     no_flag_is_left(findings.into_flags(), image)
 }
 
-// Whether a reader of wrong flags comes to none. Gives its memory back too.
+// Whether a reader of wrong copied flags has none left. Frees its memory too.
 fn no_flag_is_left<S: Storage>(mut flags: Flags<'_>, image: &mut S) -> Result<bool, Fault>
     requires { OnImage (S.state image.old) (λ bytes. IsFlagsOf bytes flags) }
     ensures left { IfOk result (λ answer. OnImage (S.state image.old) (λ bytes.

@@ -1,4 +1,5 @@
-//! How many guest clusters an image's L2 entries map, and how many of these are compressed or lie apart.
+//! The number of guest clusters that an image's L2 entries map, and how many of them are compressed or
+//! fragmented.
 
 ghost use Rattle.std.specs.Prelude.{◌≡◌, ◌+◌, ◌<◌, ◌≤◌, ◌^◌, ◌==◌, IfOk, IsOkUnless, Option, Some, None, length, not, slice_index};
 ghost use Rattle.qcow2_base.specs.Storage.{OnImage};
@@ -15,19 +16,19 @@ use qcow2_check::{flagged_cluster, load_l1_table, load_l2_table, named_cluster};
 use qcow2_metadata::{Header, L1Table, L2Table, Table};
 use std::alloc::Global;
 
-/// How many guest clusters entries map. Guest clusters whose L2 table is named by two L1 entries count twice.
+/// Numbers of mapped guest clusters. Those of an L2 table that two L1 entries name count twice.
 #[derive(Clone, Copy, Debug, PartialEq, Eq)]
 pub struct EntryCounts {
-    /// How many are mapped, to a host cluster or to compressed data.
+    /// Guest clusters that are mapped to a host cluster or to compressed data.
     pub allocated: u64,
-    /// How many of these are compressed.
+    /// Those of them that are compressed.
     pub compressed: u64,
-    /// How many of these are compressed, or have a cluster that isn't the one after that of the entry before
-    /// them in their table that has one.
+    /// Those of them that are compressed, or whose host cluster doesn't follow that of the previous standard
+    /// entry with a cluster in the same table.
     pub fragmented: u64,
 }
 
-// The sum of two numbers. No image has that many entries that it doesn't fit.
+// The sum of two numbers. No image has enough entries to overflow it.
 fn sum(total: u64, more: u64) -> Result<u64, Fault>
     ensures fault { IsOkUnless result NoMemory }
     ensures sum { IfOk result (λ sum. sum ≡ total + more) }
@@ -36,7 +37,7 @@ fn sum(total: u64, more: u64) -> Result<u64, Fault>
 }
 
 impl EntryCounts {
-    // Nothing is counted yet.
+    // The counts of no entries.
     fn new() -> EntryCounts
         ensures { result ≡ no_entries }
     {
@@ -47,7 +48,7 @@ impl EntryCounts {
         }
     }
 
-    // These, and others.
+    // The sums of these counts and others.
     fn plus(self, more: EntryCounts) -> Result<EntryCounts, Fault>
         ensures fault { IsOkUnless result NoMemory }
         ensures sums { IfOk result (λ counts. counts ≡ record {
@@ -64,7 +65,7 @@ impl EntryCounts {
     }
 }
 
-// Whether a cluster isn't the one after another.
+// Whether a cluster doesn't follow the last one. False if there is no last one.
 #[inline]
 fn is_apart(last: Option<HostCluster>, cluster: HostCluster) -> bool
     ensures { result ≡ is_apart last cluster }
@@ -75,7 +76,7 @@ fn is_apart(last: Option<HostCluster>, cluster: HostCluster) -> bool
     }
 }
 
-// The counts of an L2 table's entries.
+// Counts the entries of an L2 table.
 fn count_table(table: &L2Table) -> EntryCounts
     ensures { result ≡ table_counts table.now.geometry table.now.numbers }
 {
@@ -118,7 +119,7 @@ fn count_l1_entry<S: Storage>(
     Ok(count_table(&table))
 }
 
-// The counts of all L2 tables that an L1 table names.
+// Counts the entries of all L2 tables that an L1 table names.
 fn count_tables<S: Storage>(
     image: &mut S,
     header: &Header,
@@ -135,7 +136,8 @@ fn count_tables<S: Storage>(
     Ok(counts)
 }
 
-/// Counts the entries of all L2 tables of an image with this header, as often as L1 entries name them.
+/// Counts the entries of all L2 tables of an image with this header, each table once for every L1 entry that
+/// names it.
 ///
 /// Returns the fault of the L1 table, or else of the first L2 table that is refused. Changes no byte.
 pub fn count_entries<S: Storage>(

@@ -1,4 +1,4 @@
-//! Where an image ends, by its counters and its uses of clusters.
+//! The end of an image, by its refcounts and its references.
 
 ghost use Rattle.std.specs.Prelude.{◌≡◌, ◌≤◌, Ok, IfErr, IfOk};
 ghost use Rattle.qcow2_base.specs.Format.{max_file_length};
@@ -12,14 +12,14 @@ use qcow2_base::{Fault, HostCluster, MAX_FILE_LENGTH, Storage};
 use qcow2_check::Counters;
 use qcow2_metadata::Header;
 
-/// How many clusters of an image with this header can end by 2^56.
+/// The number of clusters of an image with this header that end at or below 2^56.
 pub fn most_clusters(header: &Header) -> u64
     ensures { result ≡ most_clusters header.now }
 {
     MAX_FILE_LENGTH >> header.cluster_bits()
 }
 
-// The number after the last cluster below a limit whose counter isn't 0.
+// The number after the last cluster below `limit` whose refcount isn't 0, or 0.
 fn counters_end<S: Storage>(
     counters: &mut Counters<'_>,
     image: &mut S,
@@ -47,12 +47,12 @@ fn counters_end<S: Storage>(
     Ok(0)
 }
 
-/// Where an image ends, in bytes: after the last cluster that has a counter other than 0 or a use, of those
-/// that can end by 2^56. The number after the last of these of which something is found must be
-/// `found_end`.
+/// Returns the end of an image in bytes: after the last cluster with a refcount other than 0 or with a
+/// reference, among those that end at or below 2^56. The caller passes in `found_end` the number after the
+/// last of these clusters that has a finding.
 ///
-/// Fails where the storage does or memory runs out, and can be called again then. The image must be the one
-/// that the reader of counters was made for, unchanged since. Changes no byte.
+/// Fails if the storage fails or memory runs out, and can be called again then. The image must be the one
+/// that the reader of refcounts was made for, unchanged since. Changes no byte.
 pub fn end_of_image<S: Storage>(
     counters: &mut Counters<'_>,
     image: &mut S,

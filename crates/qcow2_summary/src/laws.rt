@@ -9,21 +9,21 @@ ghost use Rattle.qcow2_check.specs.Findings.{AreRight, image_findings, uses_of_k
 ghost use Rattle.qcow2_check.specs.Uses.{ImageTables, image_uses, uses_of};
 ghost use Rattle.qcow2_check.specs.declared.tally.TallyKind.TheVariants.{Fixed, Guest, L2Table};
 
-/// Nothing is found of an image exactly where nothing is wrong with any of its clusters.
+/// An image has no findings exactly if all of its clusters are right.
 pub fn nothing_is_found_just_where_all_is_right()
     ensures { (tables : ImageTables) (image : Image) →
         (image_findings tables image ≡ []) ↔ AreRight tables image 0 max_file_length }
 {}
 
-/// Where nothing is found of an image, the counter of each cluster is the number of its uses.
+/// In an image without findings the refcount of each cluster is its number of references.
 pub fn counters_are_uses_where_nothing_is_found()
     ensures { (tables : ImageTables) (image : Image) → AreRight tables image 0 max_file_length →
         (c : ℕ) → c < max_file_length →
         counter_of tables.header tables.reftable image c ≡ uses_of (image_uses tables image) c }
 {}
 
-/// Where nothing is found of an image, a cluster of the header, of the L1 table, of the refcount table or of
-/// a block has no other use, and one of an L2 table has no use but by L1 entries.
+/// In an image without findings a cluster of the header, the L1 table, the refcount table or a refcount block
+/// has no other reference, and only L1 entries refer to the cluster of an L2 table.
 pub fn uses_exclude_no_others_where_nothing_is_found()
     ensures { (tables : ImageTables) (image : Image) → AreRight tables image 0 max_file_length →
         (c : ℕ) → c < max_file_length → let uses = image_uses tables image in
@@ -31,8 +31,8 @@ pub fn uses_exclude_no_others_where_nothing_is_found()
         × (0 < uses_of_kind L2Table uses c → uses_of uses c ≡ uses_of_kind L2Table uses c) }
 {}
 
-/// Where nothing is found of an image, a cluster of guest data is none of a table or a block: it has no use
-/// but by guest data.
+/// In an image without findings only guest data refers to a cluster of guest data: it holds no table or
+/// refcount block.
 pub fn guest_data_lies_in_no_table_where_nothing_is_found()
     ensures { (tables : ImageTables) (image : Image) → AreRight tables image 0 max_file_length →
         (c : ℕ) → c < max_file_length → let uses = image_uses tables image in

@@ -1,5 +1,5 @@
-//! What a check says of an image as a whole: whether it is consistent, how many guest clusters are mapped,
-//! where it ends.
+//! A check's results for an image as a whole: whether it is consistent, how many guest clusters are mapped,
+//! and where it ends.
 #![tactic(auto)]
 
 mod consistency;
