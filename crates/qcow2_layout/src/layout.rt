@@ -1,4 +1,4 @@
-//! What each cluster of an image is, in runs.
+//! The layout of an image: what each host cluster is, in runs.
 
 ghost use Rattle.std.specs.Prelude.{◌≡◌, ℕ, ◌+◌, ◌<◌, ◌≤◌, ◌*◌, ◌^◌, IfErr, IfOk, IfSome, length};
 ghost use Rattle.qcow2_base.specs.Storage.{OnImage, OnlyReads};
@@ -15,9 +15,8 @@ use qcow2_summary::most_clusters;
 use std::alloc::Global;
 use std::marker::Model;
 
-/// A reader of what the clusters of an image are, run by run. It holds the L1 table, the refcount table, a
-/// refcount block and what a part of the image's clusters are. Clauses see it as what it has of the image and
-/// how far it has come.
+/// A reader of an image's layout, run by run. It holds the L1 table, the refcount table, a refcount block and
+/// a window of clusters with their parts. Contracts see these and the cluster that the reader has reached.
 #[derive(Drop)]
 pub struct Layout<'a> {
     header: &'a Header,
@@ -63,12 +62,12 @@ impl<'a> Layout<'a> {
     ghost use Rattle.qcow2_layout.specs.declared.parts.Part.TheVariants.{Free};
     ghost use Rattle.qcow2_layout.specs.Layout.{IsLayoutOf, IsStretch, IsWholeRun, MovesLayout, PassesRun, parts_for, layout_tables};
 
-    /// A reader of the runs of an image with this header, before the first of them. Reads its tables, and
-    /// looks at what uses the first clusters.
+    /// Reads the tables of an image with this header and all references to its first clusters, and returns a
+    /// reader before the first run.
     ///
-    /// Returns the first of these faults: 37 where the image has snapshots, bitmaps or LUKS encryption,
-    /// that of the L1 table, that of the refcount table, 21 where a refcount block would end past 2^56, or
-    /// that of an L2 table. Changes no byte.
+    /// Returns the first of these faults: 37 if the image has snapshots, bitmaps or LUKS encryption, that of
+    /// the L1 table, that of the refcount table, 21 if a refcount block would end past 2^56, or that of an L2
+    /// table. Changes no byte.
     pub fn new<S: Storage>(
         alloc: Global,
         image: &mut S,
@@ -103,13 +102,13 @@ impl<'a> Layout<'a> {
         })
     }
 
-    /// The next run, or nothing where the image ends: after the last cluster that isn't free. Runs follow
-    /// one another from cluster 0 on, each as long as its clusters are one part. Those of guest data follow
-    /// one another in the guest's disk too.
+    /// Returns the next run, or `None` at the image's end, which is after the last cluster that isn't free.
+    /// Runs follow one another from cluster 0 on. Each is as long as its clusters are the same part, and
+    /// clusters of guest data also follow one another on the guest's disk.
     ///
-    /// Fails where the storage does or memory runs out. The reader then stays before that run, and the call
-    /// can be made again. The image must be the one that the reader was made for, unchanged since. Changes
-    /// no byte.
+    /// Fails if the storage fails or memory runs out. The reader then stays before the run, and the call can
+    /// be made again. The image must be the one that the reader was made for, unchanged since. Changes no
+    /// byte.
     pub fn next<S: Storage>(&mut self, image: &mut S) -> Result<Option<Run>, Fault>
         requires { OnImage (S.state image.old) (λ bytes. IsLayoutOf bytes self.old) }
         ensures run { PassesRun (S.state image.old) self.old result self.new.position }
@@ -132,7 +131,7 @@ impl<'a> Layout<'a> {
         }))
     }
 
-    // Whether clusters of this part before the reader's are free ones at the end of all that can be there.
+    // Whether a run of this part that ends at the reader's position is the free space after the image's end.
     fn is_past_end(&self, part: Part) -> bool
         ensures { IsTrue result ↔ (part ≡ Free)
             × (self.now.position ≡ most_clusters self.now.header) }
@@ -140,7 +139,7 @@ impl<'a> Layout<'a> {
         part == Part::Free && self.position == most_clusters(self.header)
     }
 
-    // Goes past the clusters from the reader's on that are one, and returns what they are.
+    // Moves the reader past the run that begins at its position, and returns the run's part.
     fn pass_run<S: Storage>(&mut self, image: &mut S) -> Result<Part, Fault>
         requires before { self.old.position < most_clusters self.old.header }
         requires reader { OnImage (S.state image.old) (λ bytes. IsLayoutOf bytes self.old) }
@@ -172,8 +171,8 @@ impl<'a> Layout<'a> {
         Ok(part)
     }
 
-    // What the cluster from a number on is, and up to where clusters surely go on from it. Looks at them
-    // first, unless it has.
+    // The part of cluster `from`, and the end of a stretch of clusters after it that surely continue it.
+    // Moves the window there if it doesn't hold the cluster.
     fn piece<S: Storage>(&mut self, image: &mut S, from: u64) -> Result<(Part, u64), Fault>
         requires before { from < most_clusters self.old.header }
         requires reader { OnImage (S.state image.old) (λ bytes. IsLayoutOf bytes self.old) }
@@ -190,7 +189,7 @@ impl<'a> Layout<'a> {
         self.piece_in_window(image, from)
     }
 
-    // The same of clusters that were looked at.
+    // `piece` for a cluster that the window holds.
     fn piece_in_window<S: Storage>(
         &mut self,
         image: &mut S,
@@ -222,7 +221,7 @@ impl<'a> Layout<'a> {
         Ok((Part::unused(counter), from + 1))
     }
 
-    // Whether a cluster was looked at, and those after it.
+    // Whether the window holds a cluster.
     fn has_window(&self, cluster: u64) -> bool
         ensures { IsTrue result ↔ IsSomeAnd self.now.window (λ window. (window.first ≤ cluster)
             × (cluster < window.end)) }
@@ -233,7 +232,7 @@ impl<'a> Layout<'a> {
         }
     }
 
-    // Looks at what uses a cluster and those after it, unless it has.
+    // Moves the window to a cluster unless it holds it.
     fn keep_window<S: Storage>(&mut self, image: &mut S, cluster: u64) -> Result<(), Fault>
         requires before { cluster < most_clusters self.old.header }
         requires reader { OnImage (S.state image.old) (λ bytes. IsLayoutOf bytes self.old) }
@@ -247,7 +246,7 @@ impl<'a> Layout<'a> {
         if self.has_window(cluster) {
             return Ok(());
         }
-        // Its memory is given back before the next takes as much.
+        // Free its memory before the next window takes as much.
         self.window = None;
         let tables = ImageTables {
             header: self.header,

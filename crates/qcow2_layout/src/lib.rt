@@ -1,5 +1,5 @@
-//! What each host cluster of an image is: a part of its tables, guest data, leaked or free. As runs of
-//! clusters, and as a picture: squares in rows, each with the colour of the most severe content in it.
+//! The layout of an image: what each host cluster is, such as a table, guest data, leaked or free. It comes
+//! as runs of clusters and as a picture: squares in rows, each with the colour of its most severe content.
 #![tactic(auto)]
 
 pub mod laws;

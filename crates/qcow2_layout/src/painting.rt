@@ -16,10 +16,10 @@ use qcow2_base::{Fault, Storage};
 use qcow2_metadata::Header;
 use std::alloc::Global;
 
-/// The picture of an image with this header.
+/// Paints the picture of an image with this header.
 ///
-/// Returns fault 37 before any other, if the header names a part that isn't counted. Fails as `Layout::new`
-/// and `Layout::next` do. Changes no byte.
+/// Returns fault 37 before any other, if the header names a part whose references aren't counted. Fails as
+/// `Layout::new` and `Layout::next` do. Changes no byte.
 pub fn picture_of<S: Storage>(
     alloc: Global,
     image: &mut S,
@@ -39,7 +39,7 @@ pub fn picture_of<S: Storage>(
     Ok(picture)
 }
 
-// Paints all runs of the image that a reader is at the start of into the picture of no cluster.
+// Paints all runs of a reader before its first into an empty picture.
 fn paint_runs<S: Storage>(
     picture: &mut Picture,
     layout: &mut Layout<'_>,

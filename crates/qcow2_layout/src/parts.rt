@@ -1,4 +1,4 @@
-//! What clusters of an image are.
+//! The parts of an image that a host cluster can be.
 
 ghost use Rattle.std.specs.Prelude.{◌≡◌, ◌↔◌, ◌<◌, ◌^◌, IsTrue, Option};
 ghost use Rattle.qcow2_layout.specs.Layout.{moved_part};
@@ -7,47 +7,46 @@ ghost use Rattle.qcow2_layout.specs.Window.{cell_of};
 
 use qcow2_base::{GuestOffset, HostCluster};
 
-// The number of guest data at offset 0. Each number below stands for another part.
+// The code of guest data at offset 0. The smaller numbers are codes of the other parts.
 const DATA_CODE: u64 = 9;
 
-/// What a cluster of an image is. One that is used as several is the first that stands here, and of guest
-/// data and compressed data what the lowest guest offset has there.
+/// What a host cluster is. One with references of several kinds is the first of these that applies, except
+/// that guest and compressed data go by the lowest guest offset.
 #[derive(Clone, Copy, Debug, PartialEq, Eq)]
 pub enum Part {
-    /// The header's cluster, which is cluster 0.
+    /// The header, in cluster 0.
     Header,
-    /// The bytes of the L1 table are in it.
+    /// Bytes of the L1 table.
     L1Table,
-    /// The refcount table is in it.
+    /// Bytes of the refcount table.
     RefcountTable,
-    /// An entry of the refcount table names it.
+    /// A refcount block that an entry of the refcount table names.
     RefcountBlock,
-    /// An entry of the L1 table names it.
+    /// An L2 table that an entry of the L1 table names.
     L2Table,
-    /// What a standard L2 entry names: a cluster of guest data, or one that is kept for zeros. It is that of
-    /// the guest's cluster at this offset, the lowest where several entries name it.
+    /// Guest data, or the cluster of a zero entry: a standard L2 entry names it. The offset is that of its
+    /// guest cluster, the lowest if several entries name it.
     Data(GuestOffset),
-    /// Data of compressed clusters, perhaps of several and not all of it.
+    /// Compressed data, perhaps of several guest clusters, and perhaps not all of theirs.
     Compressed,
-    /// Nothing uses it, but its counter isn't 0.
+    /// A refcount other than 0, and no reference.
     Leaked,
-    /// Nothing uses it, and its counter is 0 or it has none.
+    /// A refcount of 0 or no refcount, and no reference.
     Free,
 }
 
-/// Clusters one after another that are one part. Those of guest data follow one another in the guest's disk
-/// too.
+/// Consecutive clusters that are the same part. Those of guest data are consecutive on the guest's disk too.
 #[derive(Clone, Copy, Debug, PartialEq, Eq)]
 pub struct Run {
     pub first: HostCluster,
-    /// How many clusters. Never 0.
+    /// The number of clusters. Never 0.
     pub count: u64,
-    /// What they are. For guest data the offset is that of the first cluster.
+    /// The part of the clusters. For guest data its offset is that of the first cluster.
     pub part: Part,
 }
 
 impl Part {
-    // The number that stands for it in memory.
+    // The code of the part in a cell.
     #[inline(always)]
     pub(crate) fn code(self) -> u64
         requires { code_of self < 2 ^ 64 }
@@ -66,7 +65,7 @@ impl Part {
         }
     }
 
-    // The part that a cell's number stands for, or nothing for 0.
+    // The part whose code a cell holds. `None` for 0.
     #[inline]
     pub(crate) fn of_cell(cell: u64) -> Option<Part>
         ensures { (part : Option Part) → cell ≡ cell_of part → result ≡ part }
@@ -85,7 +84,7 @@ impl Part {
         }
     }
 
-    // What a cluster without a use is, by its counter.
+    // The part of a cluster with this refcount and no reference.
     #[inline]
     pub(crate) fn unused(counter: u64) -> Part
         ensures { result ≡ unused_part counter }
@@ -97,7 +96,7 @@ impl Part {
         }
     }
 
-    // Whether a cluster of this part goes on `bytes` further on as one of the next part.
+    // Whether a cluster of part `next`, `bytes` after one of this part, continues its run.
     #[inline]
     pub(crate) fn goes_on_as(self, bytes: u64, next: Part) -> bool
         ensures { IsTrue result ↔ (next ≡ moved_part bytes self) }

@@ -1,4 +1,4 @@
-//! Squares that clusters are painted into, run by run.
+//! Squares of one colour, painted run by run.
 
 ghost use Rattle.std.specs.Prelude.{◌≡◌, ℕ, ◌+◌, ◌*◌, ◌/◌, ◌<◌, ◌≤◌, IfOk, length, max, min, slice_index};
 ghost use Rattle.qcow2_base.specs.Format.{max_file_length};
@@ -12,14 +12,15 @@ use qcow2_base::ClusterCount;
 use std::alloc::{AllocError, Global};
 use std::marker::Model;
 
-/// How many squares a row has.
+/// The number of squares in a row.
 pub const COLUMNS: usize = 64;
 
-// How many squares a picture has: 64 rows of them.
+// The number of squares in a picture: 64 rows.
 const SQUARES: usize = 4096;
 
-/// The clusters of an image as at most 4096 squares in rows of 64. Each stands for as many clusters, a power
-/// of two, and has the colour of the most severe content in it. Clauses see it as a record of these.
+/// The clusters of an image as at most 4096 squares in rows of 64. Each square stands for the same number of
+/// clusters, a power of two, and has the colour of the most severe content in it. Contracts see a record of
+/// these fields.
 #[derive(Drop)]
 pub struct Picture {
     squares: [u8; SQUARES],
@@ -46,15 +47,15 @@ impl Model for Picture {
         × (p.end ≤ max_file_length) };
 }
 
-/// Squares of a row one after another that have one colour.
+/// Consecutive squares of a row that have the same colour.
 #[derive(Clone, Copy, Debug, PartialEq, Eq)]
 pub struct Shape {
-    /// The first, counted from that of cluster 0 on.
+    /// The first square, counted from that of cluster 0 on.
     pub first: usize,
-    /// How many.
+    /// The number of squares.
     pub count: usize,
-    /// Their colour: 0 for free clusters, 1 to 8 for data of the guest's disk, by its eighths, 9 for
-    /// compressed data, 10 for the header and mapping tables, 11 for refcounts, and 12 for leaked clusters.
+    /// The colour: 0 for free clusters, 1 to 8 for data in the eighths of the guest's disk, 9 for compressed
+    /// data, 10 for the header and mapping tables, 11 for refcounts, and 12 for leaked clusters.
     pub shade: u8,
 }
 
@@ -65,7 +66,7 @@ impl Picture {
     ghost use Rattle.qcow2_layout.specs.Layout.{moved_part};
     ghost use Rattle.qcow2_layout.specs.Picture.{HasRun, IsWhole, Shades, Shows, shapes_of, shown_squares};
 
-    /// The picture of no cluster, of an image whose guest's disk has this size.
+    /// An empty picture, for an image whose guest disk has `size` bytes.
     pub(crate) fn new(size: u64) -> Picture
         ensures begun { (result.end ≡ 0) × (result.size ≡ size) }
         ensures blank { (shades : Shades) → Shows shades result }
@@ -79,15 +80,15 @@ impl Picture {
         }
     }
 
-    /// How many clusters a square stands for.
+    /// The number of clusters that a square stands for.
     pub fn scale(&self) -> u64
         ensures { result ≡ self.now.scale }
     {
         self.scale
     }
 
-    /// The squares that stand for clusters of the image, as shapes of one colour, row by row. Fails only
-    /// where memory runs out.
+    /// The squares that stand for clusters of the image, as shapes of one colour, row by row. Fails only if
+    /// memory runs out.
     pub fn shapes(&self, alloc: Global) -> Result<Vec<Shape>, AllocError>
         ensures { IfOk result (λ shapes. shapes.items ≡ shapes_of (shown_squares self.now)) }
     {
@@ -95,7 +96,7 @@ impl Picture {
         shapes_of(&self.squares[..shown], alloc)
     }
 
-    /// Paints a run of clusters that begins where the painted ones end.
+    /// Paints a run of clusters. It must begin at the end of the painted ones.
     pub(crate) fn paint(&mut self, run: &Run, cluster_bits: u32)
         requires bits { IsClusterBits cluster_bits }
         requires next { run.now.first.0 ≡ self.old.end }
@@ -112,7 +113,7 @@ impl Picture {
         }
     }
 
-    // Paints the run's clusters from the first that isn't painted on, as many as are in its square.
+    // Paints as many clusters of the run as fit in one square, from the first that isn't painted.
     fn paint_square(&mut self, run: &Run, run_end: u64, cluster_bits: u32)
         requires bits { IsClusterBits cluster_bits }
         requires begun { run.now.first.0 ≤ self.old.end }
@@ -136,8 +137,8 @@ impl Picture {
     }
 }
 
-// Lets a square stand for twice as many clusters, if all squares are full that stand for `scale` each.
-// Returns how many each stands for now.
+// If all squares are full, merges them in pairs, so that each stands for twice as many clusters. Returns the
+// number that each stands for then.
 fn make_room(squares: &mut [u8], scale: u64, end: u64) -> u64
     requires count { length squares.old ≡ all_squares }
     requires scale { IsScale end scale }
@@ -155,7 +156,7 @@ fn make_room(squares: &mut [u8], scale: u64, end: u64) -> u64
     2 * scale
 }
 
-// Gives each square of the first half the colour of two.
+// Gives each square of the first half the more severe colour of two.
 fn merge_pairs(squares: &mut [u8])
     requires count { length squares.old ≡ all_squares }
     ensures merged { (i : ℕ) → i < 2048 → slice_index squares.new i
@@ -167,7 +168,7 @@ fn merge_pairs(squares: &mut [u8])
     }
 }
 
-// Gives the squares of the second half the colour 0.
+// Clears the squares of the second half to colour 0.
 fn clear_second_half(squares: &mut [u8])
     requires count { length squares.old ≡ all_squares }
     ensures cleared { (i : ℕ) → 2048 ≤ i → i < all_squares → slice_index squares.new i ≡ 0 }
@@ -179,7 +180,7 @@ fn clear_second_half(squares: &mut [u8])
     }
 }
 
-// The colour of a cluster that lies that many bytes after one of this part, where it goes on from there.
+// The colour of a cluster that lies `bytes` after one of this part, in the same run.
 fn shade_of(part: Part, bytes: u64, size: u64) -> u8
     ensures { result ≡ spec.shade_of size (moved_part bytes part) }
 {
@@ -193,8 +194,8 @@ fn shade_of(part: Part, bytes: u64, size: u64) -> u8
     }
 }
 
-// Which eighth of a disk an offset is in that is that many bytes after another one. The last goes on past the
-// disk's end.
+// The eighth of a disk that has the offset `offset + bytes`. Offsets past the disk's end count as the last
+// eighth.
 fn eighth_of(offset: u64, bytes: u64, size: u64) -> u8
     ensures { result ≡ min 7 ((offset + bytes) / max 1 (div_ceil size 8)) }
 {
@@ -204,7 +205,7 @@ fn eighth_of(offset: u64, bytes: u64, size: u64) -> u8
     }
 }
 
-// Squares as shapes of one colour, row by row.
+// Groups squares into shapes of one colour, row by row.
 fn shapes_of(squares: &[u8], alloc: Global) -> Result<Vec<Shape>, AllocError>
     ensures { IfOk result (λ shapes. shapes.items ≡ spec.shapes_of squares.now) }
 {
@@ -217,7 +218,7 @@ fn shapes_of(squares: &[u8], alloc: Global) -> Result<Vec<Shape>, AllocError>
     Ok(shapes)
 }
 
-// Whether a square begins a row, or has another colour than the one before.
+// Whether a square begins a row, or has another colour than the one before it.
 fn begins_shape(squares: &[u8], index: usize) -> bool
     requires { index < length squares.now }
     ensures { result ≡ spec.begins_shape squares.now index }
@@ -225,7 +226,7 @@ fn begins_shape(squares: &[u8], index: usize) -> bool
     index % COLUMNS == 0 || squares[index - 1] != squares[index]
 }
 
-// The squares of a row that have one colour, from one on.
+// The shape of the squares from an index on that have the same colour in the same row.
 fn shape_at(squares: &[u8], index: usize) -> Shape
     requires { index < length squares.now }
     ensures { result ≡ spec.shape_at squares.now index }
@@ -239,7 +240,7 @@ fn shape_at(squares: &[u8], index: usize) -> Shape
     }
 }
 
-// How many squares have this colour before one that has another.
+// The number of squares before the first that has another colour.
 fn same_count(squares: &[u8], shade: u8) -> usize
     ensures { result ≡ spec.same_count shade squares.now }
 {

@@ -1,4 +1,4 @@
-//! Placing what an image uses.
+//! The parts of clusters, placed into a window by the walk over an image's references.
 
 ghost use Rattle.std.specs.Prelude.{◌≡◌, ℕ, ◌+◌, ◌*◌, ◌-◌, ◌<◌, ◌≤◌, [], ◌∷◌, IfOk, IsOkUnless, OnOk};
 ghost use Rattle.std.proofs.Common.{arith};
@@ -21,7 +21,8 @@ use qcow2_base::{Fault, GuestCluster, HostCluster, Storage};
 use qcow2_check::{ImageTables, Use, UseKind, UseSink, walk_uses};
 use std::marker::Model;
 
-// A window as a sink of the walk over an image with clusters of this size: the first use of a cluster stays.
+// A window as a sink of the walk over an image with this cluster size. A cluster keeps the part of its first
+// reference.
 #[derive(Drop)]
 struct Places {
     cluster_bits: u32,
@@ -39,7 +40,7 @@ impl Model for Places {
     ghost invariant = { λ p. IsClusterBits p.cluster_bits };
 }
 
-// What clusters are that are used so.
+// The part of clusters with such a reference.
 #[inline(always)]
 #[tactic(auto, using(crate::proofs::PlacesLemmas::data_fits))]
 fn part_of(used: Use, cluster_bits: u32) -> Part
@@ -59,7 +60,7 @@ fn part_of(used: Use, cluster_bits: u32) -> Part
     }
 }
 
-// Places that many clusters from one on, used as a part.
+// Makes `count` clusters from `first` on a part, unless they are one already.
 #[inline(always)]
 #[tactic(auto, using(crate::proofs::WindowLemmas::places_next))]
 fn place_clusters(
@@ -83,8 +84,8 @@ fn place_clusters(
 impl UseSink for Places {
     ghost takes = { TakesParts };
 
-    // The walk calls it from several places, so it is inlined by word alone. A call for each entry would cost
-    // half as much again as all the rest.
+    // Several places of the walk call this, so the compiler inlines it only if told to. A call for each entry
+    // would add half to the time of all the rest.
     #[inline(always)]
     fn take(&mut self, used: Use) -> Result<(), Fault> {
         let part = part_of(used, self.cluster_bits);
@@ -98,9 +99,9 @@ impl UseSink for Places {
         Prim.grind (arith, one, other, map-append, fold-append) };
 }
 
-/// Places all clusters that an image uses.
+/// Places the clusters of all references of an image into a window.
 ///
-/// Fails where an L2 table does, by the fault of its load, and where memory runs out. Changes no byte.
+/// Fails with the fault of an L2 table that doesn't load, or if memory runs out. Changes no byte.
 pub(crate) fn place_image<S: Storage>(
     window: Window,
     image: &mut S,

@@ -1,4 +1,4 @@
-//! What the clusters of a part of an image are by their uses, in memory of a bounded size.
+//! The parts of some of an image's clusters by their references, in bounded memory.
 
 ghost use Rattle.std.specs.Prelude.{◌≡◌, ℕ, ◌+◌, ◌-◌, ◌^◌, ◌<◌, ◌≤◌, [], ◌∷◌, IfOk, IsOkUnless, OnOk, length, replicate};
 ghost use Rattle.qcow2_base.specs.Format.{max_file_length};
@@ -13,8 +13,8 @@ use std::alloc::Global;
 use std::collections::BTreeMap;
 use std::marker::Model;
 
-/// What clusters from one on are by their uses: the number of a part for each, or 0 where it has no use.
-/// Clauses see it as cells.
+/// The parts of clusters from a first one on, by their references: the code of a part for each, or 0 for a
+/// cluster without a reference. Contracts see cells.
 #[derive(Drop)]
 pub(crate) struct Window {
     first: u64,
@@ -50,8 +50,8 @@ impl Window {
     ghost use Rattle.std.specs.Prelude.{◌≡◌, ◌+◌, ◌<◌, ◌≤◌, length, replicate};
     ghost use Rattle.qcow2_check.specs.Tally.{cell_at, dense_end};
 
-    /// Clusters from one on, none of which has a use. The cells of the next `dense` lie one after another,
-    /// and there are at most `most` others. Fails only where memory runs out.
+    /// A window from cluster `first` on, without references. The next `dense` clusters have consecutive
+    /// cells, and up to `most` clusters after them have cells in a map. Fails only if memory runs out.
     pub(crate) fn new(alloc: Global, first: u64, dense: usize, most: usize) -> Result<Window, Fault>
         requires some { 0 < dense }
         requires fits { first + dense ≤ max_file_length }
@@ -68,7 +68,7 @@ impl Window {
         })
     }
 
-    /// The first cluster.
+    /// The first cluster that it holds.
     #[inline]
     pub(crate) fn first(&self) -> u64
         ensures { result ≡ self.now.first }
@@ -76,7 +76,7 @@ impl Window {
         self.first
     }
 
-    /// The cluster that it ends before.
+    /// The first cluster after those that it holds.
     #[inline]
     pub(crate) fn end(&self) -> u64
         ensures value { result ≡ self.now.end }
@@ -86,7 +86,7 @@ impl Window {
         self.end
     }
 
-    /// How many clusters have a use, perhaps with some that it ends before.
+    /// The number of clusters with a reference. May include some at or after `end`.
     pub(crate) fn used(&self) -> usize {
         let dense = self.dense.iter().filter(|cell| **cell != 0).count();
         dense.saturating_add(self.sparse.len())
@@ -105,7 +105,7 @@ impl Window {
         self.sparse.get(&cluster).copied().unwrap_or(0)
     }
 
-    /// The first cluster from one on that has a use, or the limit where none before it has.
+    /// The first cluster from `from` on that has a reference, or `limit` if none before it has.
     pub(crate) fn next_used(&self, from: u64, limit: u64) -> u64
         requires from { self.now.first ≤ from }
         requires some { from ≤ limit }
@@ -125,8 +125,8 @@ impl Window {
         }
     }
 
-    /// Says that a cluster is used as a part, if it is one of these clusters and has no use yet. Where there
-    /// are too many cells they end before the last of them.
+    /// Makes a cluster a part, if the window holds the cluster and it has no part yet. If the map then has
+    /// too many cells, the window drops the last of them and ends before its cluster.
     #[inline]
     pub(crate) fn put(&mut self, cluster: u64, part: Part) -> Result<(), Fault>
         requires { HasCode part }
@@ -147,7 +147,7 @@ impl Window {
         Ok(())
     }
 
-    // The same of a cluster that is after the dense cells.
+    // `put` for a cluster after the dense cells.
     #[inline(never)]
     fn put_sparse(&mut self, cluster: u64, part: Part) -> Result<(), Fault>
         requires code { HasCode part }

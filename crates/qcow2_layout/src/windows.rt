@@ -1,4 +1,4 @@
-//! Which clusters are looked at at once.
+//! The choice of the clusters whose parts are held at once.
 
 ghost use Rattle.std.specs.Prelude.{◌≡◌, ◌*◌, ◌<◌, ◌≤◌, IfOk, false};
 ghost use Rattle.qcow2_base.specs.Format.{max_file_length};
@@ -17,23 +17,23 @@ use qcow2_base::{Fault, MAX_FILE_LENGTH, Storage};
 use qcow2_check::{ImageTables, counted_end};
 use qcow2_metadata::Table;
 
-// The fewest cells that lie one after another.
+// The fewest dense cells of a window.
 const FEW_CELLS: u64 = 4096;
 
-// How many there are at most, of eight bytes each: enough for 512 GiB in clusters of 64 KiB.
+// The most dense cells, of eight bytes each: enough for 512 GiB in clusters of 64 KiB.
 const MOST_CELLS: u64 = 1 << 23;
 
-// How many other cells there are at most.
+// The most cells in the map.
 const MOST_SPARSE: usize = 1 << 20;
 
-// How many cells lie one after another, and how many others there are at most.
+// The number of dense cells of a window, and the most cells in its map.
 #[derive(Clone, Copy)]
 struct Size {
     dense: usize,
     most: usize,
 }
 
-// How many cells lie one after another, by how many clusters from their first on the blocks count.
+// The number of dense cells in a window, given how many clusters from its first on the refcount blocks count.
 fn dense_cells(counted: u64) -> usize
     ensures some { 0 < result }
     ensures bytes { result * 8 ≤ most_window_bytes }
@@ -42,18 +42,18 @@ fn dense_cells(counted: u64) -> usize
     counted.clamp(FEW_CELLS, MOST_CELLS) as usize
 }
 
-/// The windows of an image: clusters that are looked at at once, in memory of a bounded size. How many there
-/// are is chosen for one window after another.
+/// The windows of an image: groups of clusters whose parts are held at once, in bounded memory. The size of
+/// each window depends on those before it.
 #[derive(Clone, Copy)]
 pub(crate) struct Windows {
-    // The end of the clusters that the refcount blocks count.
+    // The first cluster after all those that the refcount blocks count.
     counted: u64,
-    // Whether a window so far had few clusters that have uses, so that the next are mostly a map of these.
+    // Whether an earlier window had few clusters with references: later windows then use mostly the map.
     is_sparse: bool,
 }
 
 impl Windows {
-    /// The windows of an image with this header.
+    /// The windows of an image with these tables.
     pub(crate) fn new(tables: &ImageTables<'_>) -> Windows
         ensures counted { IsCountedEnd tables.now.header tables.now.reftable result.counted }
         ensures is_sparse { result.is_sparse ≡ false }
@@ -83,10 +83,10 @@ impl Windows {
         }
     }
 
-    /// What clusters from one on are by all uses of an image, as many clusters at once as fit. The next
-    /// windows are chosen by how many of them have a use.
+    /// Places all references of an image to clusters from `first` on in a new window, for as many clusters as
+    /// fit. Their number decides the shape of later windows.
     ///
-    /// Fails where an L2 table does, by the fault of its load, and where memory runs out. Changes no byte.
+    /// Fails with the fault of an L2 table that doesn't load, or if memory runs out. Changes no byte.
     pub(crate) fn place<S: Storage>(
         &mut self,
         image: &mut S,

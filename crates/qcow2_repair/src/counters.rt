@@ -132,8 +132,9 @@ fn pass_block<S: Storage>(
     block.write_if_modified(image, cluster)
 }
 
-// Raises or lowers the refcounts from a cluster on that its block and one window have. Returns the cluster
-// after the last of them. Skips the range of a block that the image lacks.
+// Raises or lowers the refcounts from a cluster on that are in its block and whose references one window
+// counts. Returns the cluster after the last of them. If the cluster has no block, skips the range that the
+// block would count.
 #[tactic(auto, using(crate::proofs::CountersLemmas::place_of_named))]
 fn pass_from<S: Storage>(
     image: &mut S,

@@ -46,8 +46,8 @@ impl<'a> Model for FlagPass<'a> {
 }
 
 impl FlagPass<'_> {
-    // The right copied flag of an entry that names this cluster. `None` if no refcount block or not the tally
-    // counts the cluster.
+    // The right copied flag of an entry that names this cluster. `None` if no refcount block counts the
+    // cluster or the tally doesn't.
     fn due_flag(&self, cluster: HostCluster) -> Option<bool>
         ensures { result ≡ due_flag (pass_by self.now) cluster }
     {

@@ -87,8 +87,8 @@ pub fn a_repair_that_breaks_off_makes_no_counter_too_low_unless_the_storage_fail
         fault ≢ Storage → MakesNoneTooLow header reftable old new }
 {}
 
-/// If a repair ended in any fault, and the image still has the same references, the refcounts of at most one
-/// block are lower than before and than their references: those of the block whose write was torn.
+/// If a repair ended in any fault, and the image still has the same references, refcounts became too low in
+/// at most one block: the one whose write was torn.
 pub fn a_torn_write_of_a_repair_makes_counters_of_one_block_too_low_at_most()
     ensures { (header : HeaderRecord) (reftable : List ℕ) (fault : Fault) (old new : Image) →
         IsRepairable (tables_in header reftable old) old → BreaksOffRepair header reftable fault old new →
@@ -96,9 +96,9 @@ pub fn a_torn_write_of_a_repair_makes_counters_of_one_block_too_low_at_most()
         (block : HostCluster) × MakesNoneTooLowBeside header reftable block old new }
 {}
 
-/// A part of a repair makes no refcount too low that it left whole: the old one or that of the step. The part
-/// may include a torn write of a table, if each entry is the old one or that of the step, or of a refcount
-/// block, if this cluster's refcount is the old one or that of the step.
+/// A part of a repair doesn't make a cluster's refcount too low if it left that refcount and all entries of
+/// tables whole: each is the old one or that of the step. So a write that was torn between entries of a
+/// table, or between refcounts of a block, does no harm.
 pub fn a_part_of_a_repair_makes_no_counter_too_low_that_it_leaves_whole()
     ensures { (header : HeaderRecord) (reftable : List ℕ) (old new : Image) (c : ℕ) → c < max_file_length →
         IsRepairable (tables_in header reftable old) old → LeavesWhole header reftable c old new →
