@@ -1,4 +1,4 @@
-//! The first cluster whose counter or whose uses refuse what a command does.
+//! The search for the first cluster or L2 table whose refcount or references make a command refuse.
 
 ghost use Rattle.std.specs.Prelude.{IsErrOf};
 ghost use Rattle.qcow2_base.specs.Storage.{OnImage, ReadsFor};
@@ -13,8 +13,9 @@ use qcow2_check::{Counters, Finding, Findings, load_l1_table, named_cluster};
 use qcow2_metadata::{Header, L1Table, Table, TableEntry};
 use std::alloc::Global;
 
-/// The refusal by the first cluster whose uses exclude each other (38), or else by the first whose counter is
-/// less than its uses (30). The fault of `Findings::new` comes first. Changes no byte.
+/// For fault 38, the refusal by the first cluster whose references exclude each other; for 30, by the first
+/// cluster whose refcount is smaller than its number of references. A fault of `Findings::new` comes first.
+/// Changes no byte.
 pub(super) fn cluster_refusal<S: Storage>(
     alloc: Global,
     image: &mut S,
@@ -30,7 +31,7 @@ pub(super) fn cluster_refusal<S: Storage>(
     }
 }
 
-// The first finding that a reader has left which is why a command is refused by a fault.
+// The first of a reader's remaining findings that makes a command refuse with a fault.
 fn first_about<S: Storage>(
     findings: &mut Findings<'_>,
     image: &mut S,
@@ -47,7 +48,7 @@ fn first_about<S: Storage>(
     Ok(None)
 }
 
-// The cluster of a finding, with both its numbers.
+// The cluster of a finding, with its refcount and its number of references.
 fn cluster_place(finding: &Finding) -> Place {
     Place::Cluster {
         cluster: finding.cluster.0,
@@ -56,7 +57,7 @@ fn cluster_place(finding: &Finding) -> Place {
     }
 }
 
-// Whether a finding is why a command is refused by a fault.
+// Whether a finding makes a command refuse with a fault.
 fn is_about(fault: Fault, finding: &Finding) -> bool {
     match fault {
         Fault::Overlap => finding.shared,
@@ -64,8 +65,8 @@ fn is_about(fault: Fault, finding: &Finding) -> bool {
     }
 }
 
-/// The refusal by the first L1 entry whose L2 table may have another reference (40): it isn't copied, or the
-/// counter of its table's cluster isn't 1. The faults of the tables come first. Changes no byte.
+/// The refusal by the first L1 entry whose L2 table may have another reference (40): the entry has no copied
+/// flag, or the table's refcount isn't 1. The faults of the tables come first. Changes no byte.
 pub(super) fn shared_table_refusal<S: Storage>(
     alloc: Global,
     image: &mut S,
@@ -84,7 +85,7 @@ pub(super) fn shared_table_refusal<S: Storage>(
     }
 }
 
-// The index of the first L1 entry whose L2 table may have another reference, and the counter of that table.
+// The index of the first L1 entry whose L2 table may have another reference, and that table's refcount.
 fn first_shared<S: Storage>(
     counters: &mut Counters<'_>,
     image: &mut S,
@@ -105,7 +106,7 @@ fn first_shared<S: Storage>(
     Ok(None)
 }
 
-// The L1 entry at an index, whose L2 table has this counter.
+// The place of the L1 entry at an index, whose L2 table has this refcount.
 fn shared_place(header: &Header, l1_table: &L1Table, l1_index: usize, counter: u64) -> Place {
     Place::SharedTable {
         index: l1_index,

@@ -1,4 +1,4 @@
-//! The header extensions, and which of them faults are about.
+//! The header extensions, and those that a fault concerns.
 
 ghost use Rattle.std.specs.Prelude.{IsErrOf};
 ghost use Rattle.qcow2_base.specs.Storage.{ReadsFor};
@@ -11,33 +11,33 @@ use qcow2_metadata::HeaderExtensionType;
 use std::alloc::Global;
 use std::fmt;
 
-// The types of extensions whose clusters aren't counted: bitmaps and an encryption header.
+// The types of extensions with clusters whose references aren't counted: bitmaps and an encryption header.
 const UNCOUNTED: [u64; 2] = [0x23852875, 0x0537be77];
 
-// How many bytes a cluster has at most.
+// The largest cluster size in bytes.
 const LARGEST_CLUSTER: u64 = 1 << 21;
 
-// How many bytes of a feature name table say the name of one feature.
+// The bytes of an entry in the feature name table. An entry names one feature.
 const FEATURE_NAME_BYTES: u64 = 48;
 
-/// What is wrong with an extension, or what it is about.
+/// What is wrong with an extension, or what it holds.
 #[derive(Clone, Copy)]
 pub(super) enum ExtensionTopic {
     /// It ends past the first cluster.
     PastEnd,
-    /// It must be text, and isn't.
+    /// It must be UTF-8 text, and isn't.
     NoText,
-    /// Its last feature name is cut.
+    /// It is a feature name table whose last entry has only its first byte.
     CutName,
-    /// It is the backing format.
+    /// It holds the backing format.
     BackingFormat,
-    /// It is the external data file's name.
+    /// It holds the external data file's name.
     DataFile,
-    /// It refers to clusters that aren't counted.
+    /// It refers to clusters whose references aren't counted.
     Uncounted,
 }
 
-/// A header extension: where it stands, its type, and how many bytes its data has.
+/// A header extension: its offset in the image, its type, and the length of its data in bytes.
 #[derive(Clone, Copy)]
 pub(super) struct Extension {
     offset: u64,
@@ -46,22 +46,22 @@ pub(super) struct Extension {
 }
 
 impl Extension {
-    // Whether it is of a type.
+    // Whether it has this type.
     fn is(&self, extension_type: HeaderExtensionType) -> bool {
         self.extension_type == extension_type as u64
     }
 
-    // Where its data begins.
+    // The offset of its data.
     fn data(&self) -> u64 {
         self.offset.saturating_add(8)
     }
 
-    // Where its data ends.
+    // The end of its data.
     fn end(&self) -> u64 {
         self.data().saturating_add(self.length)
     }
 
-    // Where the next one stands.
+    // The offset of the next extension: the data is padded to a multiple of eight bytes.
     fn next(&self) -> u64 {
         self.data()
             .saturating_add(self.length.div_ceil(8).saturating_mul(8))
@@ -82,8 +82,8 @@ impl fmt::Display for Extension {
     }
 }
 
-/// The extensions of an image's header of which a topic is true, up to the first that can't be read. Version
-/// 2 has none. Changes no byte.
+/// The extensions of an image's header that a topic applies to, up to the first that can't be read. Version 2
+/// has none. Changes no byte.
 pub(super) fn extensions_of<S: Storage>(
     alloc: Global,
     image: &mut S,
@@ -99,7 +99,7 @@ pub(super) fn extensions_of<S: Storage>(
     read_chain(alloc, image, topic, header_length, 1 << cluster_bits)
 }
 
-// Those of a chain of extensions that begins at an offset, and ends by another one.
+// The extensions that a topic applies to, in a chain from offset `first` to `end`.
 fn read_chain<S: Storage>(
     alloc: Global,
     image: &mut S,
@@ -136,7 +136,7 @@ fn read_extension<S: Storage>(image: &mut S, offset: u64) -> Result<Extension, F
     })
 }
 
-// Whether a topic is true of an extension of a chain that ends by an offset.
+// Whether a topic applies to an extension of a chain that must end by `end`.
 fn is_about<S: Storage>(
     alloc: Global,
     image: &mut S,
@@ -162,7 +162,8 @@ fn is_about<S: Storage>(
     }
 }
 
-// Whether the data of an extension is text. What is longer than the largest cluster is none.
+// Whether the data of an extension is UTF-8 text. Returns false if it begins past the largest cluster size or
+// is longer.
 fn is_text<S: Storage>(alloc: Global, image: &mut S, extension: &Extension) -> Result<bool, Fault>
     ensures storage { ReadsFor (IsErrOf result StorageFailed) (S.state image.old) (S.state image.new) }
 {

@@ -9,20 +9,20 @@ use qcow2_base::{Fault, MAX_FILE_LENGTH, Storage};
 use std::alloc::Global;
 use std::fmt;
 
-/// What fields of a header say together.
+/// The subject of a group of header fields.
 #[derive(Clone, Copy)]
 pub(super) enum Topic {
-    /// How many snapshots there are.
+    /// The number of snapshots.
     Snapshots,
-    /// Encryption with keys in clusters.
+    /// Encryption whose keys lie in clusters of the image.
     Encryption,
-    /// The place and the length of the L1 table.
+    /// The offset and the length of the L1 table.
     L1Table,
-    /// The place and the length of the refcount table.
+    /// The offset and the length of the refcount table.
     RefTable,
 }
 
-/// How a field's value is written.
+/// The form in which a field's value is printed.
 #[derive(Clone, Copy)]
 enum Form {
     /// A count or a size, in decimal.
@@ -31,7 +31,7 @@ enum Form {
     Bits,
 }
 
-/// A field of the header: its name, where its bytes begin, how many they are, and how its value is written.
+/// A field of the header: its name, the offset and number of its bytes, and the form of its value.
 #[derive(Clone, Copy)]
 pub(super) struct Field {
     name: &'static str,
@@ -41,7 +41,7 @@ pub(super) struct Field {
 }
 
 impl Field {
-    /// Writes where the field is, and a value of it.
+    /// Writes the field's offset and name, and this value.
     pub(super) fn write_value<W: fmt::Write>(
         &self,
         value: u64,
@@ -172,7 +172,7 @@ pub(super) const HEADER_LENGTH: Field = Field {
     form: Form::Count,
 };
 
-// The fields that say what a topic is about.
+// The fields of a topic.
 fn fields_about(topic: Topic) -> &'static [Field] {
     match topic {
         Topic::Snapshots => &[SNAPSHOTS],
@@ -182,7 +182,7 @@ fn fields_about(topic: Topic) -> &'static [Field] {
     }
 }
 
-/// The fields that say what a topic is about, with their values in the image. Changes no byte.
+/// Reads the fields of a topic from the image. Changes no byte.
 pub(super) fn fields_of<S: Storage>(
     alloc: Global,
     image: &mut S,
@@ -193,7 +193,7 @@ pub(super) fn fields_of<S: Storage>(
     read_fields(alloc, image, fields_about(topic))
 }
 
-/// Fields with their values in the image. Changes no byte.
+/// Reads these fields from the image. Changes no byte.
 pub(super) fn read_fields<S: Storage>(
     alloc: Global,
     image: &mut S,
@@ -208,7 +208,7 @@ pub(super) fn read_fields<S: Storage>(
     Ok(places)
 }
 
-// A field with its value.
+// Reads a field from the image.
 fn read_field<S: Storage>(image: &mut S, field: Field) -> Result<Place, Fault>
     ensures storage { ReadsFor (IsErrOf result StorageFailed) (S.state image.old) (S.state image.new) }
 {
@@ -216,8 +216,7 @@ fn read_field<S: Storage>(image: &mut S, field: Field) -> Result<Place, Fault>
     Ok(Place::Field(field, value))
 }
 
-/// The number of 4 or 8 bytes of an image, from an offset on. Past the end of all images it is 0. Changes no
-/// byte.
+/// Reads a big-endian number of 4 or 8 bytes. It is 0 past the end of the largest image. Changes no byte.
 pub(super) fn read_number<S: Storage>(image: &mut S, offset: u64, bytes: u32) -> Result<u64, Fault>
     ensures storage { ReadsFor (IsErrOf result StorageFailed) (S.state image.old) (S.state image.new) }
 {

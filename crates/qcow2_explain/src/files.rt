@@ -1,4 +1,4 @@
-//! Files that can't be opened as an image, by the system's word.
+//! Files that can't be opened as an image, with the system's error message.
 
 use qcow2_base::Fault;
 use std::fs::{OpenFile, OpenOptions};
@@ -7,7 +7,7 @@ use std::os::unix::fs::FileTypeExt;
 use std::rt::Files;
 use std::{fs, io};
 
-/// The line on how a file can be opened, or with the system's word where it can't.
+/// The line that says how a file can be opened, or the system's error message if it can't.
 pub(super) fn file_line<R: Files + AllocGlobal>(rt: &R, path: &str) -> Result<String, Fault> {
     let alloc = rt.alloc();
     if let Err(error) = try_open(rt, path, false) {
@@ -19,8 +19,8 @@ pub(super) fn file_line<R: Files + AllocGlobal>(rt: &R, path: &str) -> Result<St
     })
 }
 
-/// The lines on a file that can't be opened to be read, or for both, if it can't, for which another fault
-/// comes first.
+/// The lines on a file that can't be opened for reading, or with `writable` for reading and writing: fault 34
+/// comes first. `None` if it can be opened.
 pub(super) fn unopened_lines<R: Files + AllocGlobal>(
     rt: &R,
     path: &str,
@@ -34,8 +34,8 @@ pub(super) fn unopened_lines<R: Files + AllocGlobal>(
     })
 }
 
-// Opens a file for reading, or for both, and closes it. Nothing of it is read or written. A pipe isn't
-// opened, since that waits for who opens its other end.
+// Opens a file for reading, or with `writable` for both, and closes it. Reads and writes nothing. Refuses a
+// named pipe, since opening it would wait for a program at its other end, and also a socket and a directory.
 fn try_open<R: Files>(rt: &R, path: &str, writable: bool) -> io::Result<()> {
     let file_type = fs::metadata(rt, path)?.file_type();
     if file_type.is_fifo() {

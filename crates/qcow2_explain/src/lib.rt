@@ -1,4 +1,4 @@
-//! Where in an image a fault is: what `explain` says of a file.
+//! The place of a fault in an image: what `explain` prints about a file.
 #![tactic(auto)]
 
 mod clusters;

@@ -1,4 +1,4 @@
-//! Lines on where a fault is, in a file or in an image.
+//! The lines that say where in a file or an image a fault is.
 
 ghost use Rattle.std.specs.Prelude.{IsErrOf};
 ghost use Rattle.qcow2_base.specs.Storage.{ReadsFor};
@@ -14,12 +14,12 @@ use qcow2_metadata::Header;
 use std::alloc::{AllocError, Global};
 use std::rt::Files;
 
-/// Lines on where in the image of a file a fault is, each of which begins with `in`, the path and a colon. A
-/// fault that isn't of an image has one line that says what it is of. 34 has one on how the file can be
-/// opened, and 39 one for each lock for which it can't be changed. What the fault carries isn't looked at.
+/// Returns lines that say where in a file's image a fault is. Each begins with `in`, the path and a colon. A
+/// fault that isn't of an image has one line that says so. Fault 34 has a line on how the file can be opened,
+/// and 39 a line for each lock that keeps the file from being changed. Ignores what the fault carries.
 ///
-/// A file that can't be opened has a line with the system's word. Fails where the storage does or memory runs
-/// out.
+/// A file that can't be opened has a line with the system's error message. Fails if the storage fails or
+/// memory runs out.
 pub fn fault_lines<R: Files + AllocGlobal>(
     rt: &R,
     fault: Fault,
@@ -39,7 +39,7 @@ pub fn fault_lines<R: Files + AllocGlobal>(
     }
 }
 
-// The lines on where a fault is in the image of a file that can be opened.
+// The lines on a fault in a file that can be opened.
 fn locate_in_file<R: Files + AllocGlobal>(
     rt: &R,
     fault: Fault,
@@ -59,13 +59,13 @@ fn locate_in_file<R: Files + AllocGlobal>(
     }
 }
 
-/// Lines on where in an image a fault is, each of which begins with `in`, the image's name and a colon. An
-/// image that doesn't have the fault has one line that says so, or says which other one comes first. What the
-/// fault carries isn't looked at.
+/// Returns lines that say where in an image a fault is. Each begins with `in`, the image's name and a colon.
+/// If the image doesn't have the fault, one line says so. If another fault comes first, a line names it.
+/// Ignores what the fault carries.
 ///
-/// Looks at the header, for 18 to 21 at all tables but those of snapshots, for 21 at the image's end, and for
-/// 30, 38 and 40 at counters too. Changes no byte of the image. Returns fault 34 where a read of the image
-/// fails, and 35 where memory runs out.
+/// Reads the header; for 18 to 21 all tables except those of snapshots; for 21 the image's length; for 30, 38
+/// and 40 also refcounts. Changes no byte of the image. Returns fault 34 if a read of the image fails, and 35
+/// if memory runs out.
 pub fn locate_fault<S: Device>(
     alloc: Global,
     image: &mut S,
@@ -85,7 +85,7 @@ pub fn locate_fault<S: Device>(
     Ok(lines)
 }
 
-// The lines on a refusal, by this fault or by another one.
+// The lines on a refusal, and before them a line with its fault if that isn't this one.
 fn lines_of(
     alloc: Global,
     fault: Fault,

@@ -1,4 +1,4 @@
-//! Who has an image open, by the system's list of locks.
+//! The programs that have an image open, by the system's list of locks.
 
 use qcow2_base::Fault;
 use qcow2_locks::{FileId, FileLock, LockKind, listed_locks};
@@ -7,7 +7,7 @@ use std::fs;
 use std::io::ErrorKind;
 use std::rt::Files;
 
-/// The lines on the locks of a file for which it isn't changed, as the system lists them, or on a list that
+/// The lines on the locks that keep a file from being changed, as the system lists them, or on a list that
 /// can't be read.
 pub(super) fn lock_lines<R: Files + AllocGlobal>(rt: &R, path: &str) -> Result<String, Fault> {
     match fs::metadata(rt, path) {
@@ -17,7 +17,7 @@ pub(super) fn lock_lines<R: Files + AllocGlobal>(rt: &R, path: &str) -> Result<S
     }
 }
 
-// The lines on the locks of the file of a path that are listed.
+// The lines on the listed locks of a file.
 fn listed_lines<R: Files + AllocGlobal>(
     rt: &R,
     file: &FileId,
@@ -41,7 +41,7 @@ fn listed_lines<R: Files + AllocGlobal>(
     Ok(lines)
 }
 
-// The lines where no list says who has the file of a path open.
+// The lines on a list of locks that can't be read.
 fn unreadable_lines(alloc: Global, path: &str) -> Result<String, AllocError> {
     format!(in alloc;
         "in {path}: the system's list of locks can't be read: /proc/locks, /proc/self/fdinfo\n\
@@ -49,7 +49,7 @@ fn unreadable_lines(alloc: Global, path: &str) -> Result<String, AllocError> {
     )
 }
 
-// Whether a line of the list is a lock for which a file isn't changed.
+// Whether a line of the list is a lock that keeps a file from being changed.
 fn bars_change(line: &str, file: &FileId) -> bool {
     match FileLock::parse(line) {
         Some(lock) => lock.bars_writing(file) || lock.kind == LockKind::Whole && lock.file == *file,

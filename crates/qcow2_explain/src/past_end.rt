@@ -1,4 +1,4 @@
-//! The first table of an image that has a cluster past the end of the image's file.
+//! The search for the first table or refcount block that lies past the end of an image's file.
 
 ghost use Rattle.std.specs.Prelude.{IsErrOf};
 ghost use Rattle.qcow2_base.specs.Storage.{ReadsFor};
@@ -13,9 +13,9 @@ use qcow2_check::{FileEnd, UseKind, load_l1_table, load_reftable, walk_header};
 use qcow2_metadata::Header;
 use std::alloc::Global;
 
-/// The refusal of the first table or block that has a cluster past the end of the image's file, of this
-/// length. They come in the order of the L1 table, the refcount table, its blocks and L2 tables. The file's
-/// last cluster may be cut. Changes no byte.
+/// The refusal by the first table or refcount block with a cluster past the end of a file of `length` bytes,
+/// in the order of the L1 table, the refcount table, refcount blocks and L2 tables. The file's last cluster
+/// may be partial. Changes no byte.
 pub(super) fn past_end_refusal<S: Storage>(
     alloc: Global,
     image: &mut S,
@@ -34,8 +34,8 @@ pub(super) fn past_end_refusal<S: Storage>(
     Ok(Some(Refusal { fault, places }))
 }
 
-// What says where the first table or block lies that has a cluster past the end of a file of that many.
-// Tables are loaded only where none before them does.
+// The fields or the entry that name the first table or refcount block with a cluster past the end of a file
+// of that many clusters. Loads a table only if all before it lie in the file.
 fn places_past_end<S: Storage>(
     alloc: Global,
     image: &mut S,
@@ -49,7 +49,7 @@ fn places_past_end<S: Storage>(
     match file.missing.map(|used| used.kind) {
         Some(UseKind::L1Table) => return fields_of(alloc, image, Topic::L1Table),
         Some(UseKind::RefcountTable) => return fields_of(alloc, image, Topic::RefTable),
-        // The walk over a header takes none of these others.
+        // `walk_header` takes none of these, except the header, which `FileEnd` accepts.
         Some(UseKind::Header | UseKind::RefcountBlock | UseKind::L2Table) => {}
         Some(UseKind::Data | UseKind::Compressed) | None => {}
     }

@@ -1,37 +1,37 @@
-//! Places in an image, and what a line says of each.
+//! Places in an image, and their text in a line.
 
 use super::extensions::Extension;
 use super::fields::Field;
 use std::fmt;
 
-/// A place in an image, and what is there.
+/// A place in an image, with its value.
 #[derive(Clone, Copy)]
 pub(super) enum Place {
-    /// A field of the header, with its value.
+    /// A field of the header and its value.
     Field(Field, u64),
     /// A header extension.
     Extension(Extension),
-    /// An entry of a table of this kind.
+    /// An entry of an L1 table or refcount table, with its value.
     Entry {
         kind: &'static str,
         index: usize,
         offset: u64,
         number: u64,
     },
-    /// An entry of an L2 table.
+    /// An entry of an L2 table, with its value.
     GuestEntry {
         guest_offset: u64,
         offset: u64,
         number: u64,
     },
-    /// An entry of the L1 table, whose L2 table has this counter.
+    /// An entry of the L1 table, with its value and the refcount of its L2 table.
     SharedTable {
         index: usize,
         offset: u64,
         number: u64,
         counter: u64,
     },
-    /// A host cluster, with its counter and how many uses it has.
+    /// A host cluster, with its refcount and its number of references.
     Cluster {
         cluster: u64,
         counter: u64,
@@ -39,7 +39,7 @@ pub(super) enum Place {
     },
     /// The end of the image's file.
     FileEnd(u64),
-    /// How many L1 entries the whole disk needs.
+    /// The number of L1 entries that the whole disk needs.
     NeededEntries(u64),
 }
 
@@ -88,7 +88,7 @@ impl fmt::Display for Place {
     }
 }
 
-/// Where the entry of a table is that begins at an offset. Past the largest offset it is that one.
+/// The offset of an entry, in a table at offset `begin`. Saturates at the largest number.
 pub(super) fn entry_offset(begin: u64, index: usize) -> u64 {
     begin.saturating_add((index as u64).saturating_mul(8))
 }

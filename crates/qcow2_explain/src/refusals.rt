@@ -1,4 +1,4 @@
-//! Why an image is refused, and where in it that is.
+//! The refusal of an image, with its fault and its places in the image.
 
 ghost use Rattle.std.specs.Prelude.{◌≡◌, IsErrOf};
 ghost use Rattle.qcow2_base.specs.Storage.{ReadsFor};
@@ -24,20 +24,20 @@ pub(super) struct Refusal {
 }
 
 impl Refusal {
-    /// The refusal by a fault, at one place.
+    /// A refusal with one place.
     pub(super) fn at(alloc: Global, fault: Fault, place: Place) -> Result<Refusal, AllocError> {
         let mut places = Vec::new(alloc);
         places.push(place)?;
         Ok(Refusal { fault, places })
     }
 
-    /// Whether it is by a fault, whatever that carries.
+    /// Whether it has this fault, whatever the fault carries.
     pub(super) fn is_by(&self, fault: Fault) -> bool {
         self.fault.number() == fault.number()
     }
 }
 
-/// Whether there is a refusal by a fault.
+/// Whether there is a refusal with this fault.
 pub(super) fn is_of(refusal: &Option<Refusal>, fault: Fault) -> bool {
     match refusal {
         Some(refusal) => refusal.is_by(fault),
@@ -45,9 +45,8 @@ pub(super) fn is_of(refusal: &Option<Refusal>, fault: Fault) -> bool {
     }
 }
 
-/// Why an image is refused: by this fault, where it is, or else by one that comes before. Where the length of
-/// its file is known, 21 is also the fault of a table past the file's end. Fails only where memory runs out
-/// or the storage fails. Changes no byte.
+/// The refusal of an image by this fault, or else by one that comes before it. If `length` is known, 21 also
+/// means a table past the file's end. Fails only if memory runs out or the storage fails. Changes no byte.
 pub(super) fn refusal_of<S: Storage>(
     alloc: Global,
     image: &mut S,
@@ -62,7 +61,7 @@ pub(super) fn refusal_of<S: Storage>(
     }
 }
 
-// The same of an image with this header.
+// `refusal_of` for an image with this header.
 fn image_refusal<S: Storage>(
     alloc: Global,
     image: &mut S,
@@ -80,7 +79,7 @@ fn image_refusal<S: Storage>(
     }
 }
 
-// The same, or else the fault for which the uses of clusters can't be counted.
+// The same, but a fault that keeps the references from being counted is an error.
 fn refusal_by<S: Storage>(
     alloc: Global,
     image: &mut S,
@@ -97,7 +96,7 @@ fn refusal_by<S: Storage>(
     }
 }
 
-// The same of a fault for which no cluster's uses are counted.
+// The same for a fault whose search counts no references.
 fn plain_refusal<S: Storage>(
     alloc: Global,
     image: &mut S,
@@ -128,7 +127,7 @@ fn plain_refusal<S: Storage>(
     }
 }
 
-// The refusal of a table: as it is in the image, or else for 21 by the end of the image's file.
+// The refusal by a fault of a table. For 21 without such a fault, the refusal by a table past the file's end.
 fn refusal_of_tables<S: Storage>(
     alloc: Global,
     image: &mut S,
@@ -147,7 +146,8 @@ fn refusal_of_tables<S: Storage>(
     }
 }
 
-// The refusal of a header that has no room once it is written anew, as a copy of the first cluster shows.
+// The refusal of a header that has no room for being written anew. A copy of the first cluster is loaded for
+// writing.
 fn room_refusal<S: Storage>(
     alloc: Global,
     image: &mut S,
@@ -181,7 +181,7 @@ fn short_l1_refusal<S: Storage>(
     Ok(Some(Refusal { fault, places }))
 }
 
-// Why a header is refused by a fault, unless memory ran out or the storage failed.
+// The refusal of a header by a fault of its load. An error if memory ran out or the storage failed.
 fn header_refusal<S: Storage>(alloc: Global, image: &mut S, fault: Fault) -> Result<Refusal, Fault>
     ensures storage { ReadsFor (IsErrOf result StorageFailed) (S.state image.old) (S.state image.new) }
     ensures passed_on { fault ≡ StorageFailed → IsErrOf result StorageFailed }
@@ -197,7 +197,7 @@ fn header_refusal<S: Storage>(alloc: Global, image: &mut S, fault: Fault) -> Res
     Ok(Refusal { fault, places })
 }
 
-// The refusal by a fault of fields of a header.
+// The refusal by a fault that these header fields show.
 fn by_fields<S: Storage>(
     alloc: Global,
     image: &mut S,
@@ -210,7 +210,7 @@ fn by_fields<S: Storage>(
     Ok(Some(Refusal { fault, places }))
 }
 
-// The refusal of an image with a part whose clusters aren't counted.
+// The refusal of an image that has a part whose references aren't counted.
 fn by_part<S: Storage>(
     alloc: Global,
     image: &mut S,
@@ -227,8 +227,8 @@ fn by_part<S: Storage>(
     Ok(Some(Refusal { fault, places }))
 }
 
-// Where an image says that it has encryption with keys in clusters: by extensions, or by a field where it has
-// none of these.
+// The places that say that an image has encryption with keys in clusters: extensions, or without these a
+// header field.
 fn places_of_keys<S: Storage>(alloc: Global, image: &mut S) -> Result<Vec<Place>, Fault>
     ensures storage { ReadsFor (IsErrOf result StorageFailed) (S.state image.old) (S.state image.new) }
 {

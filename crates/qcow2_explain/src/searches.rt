@@ -1,4 +1,4 @@
-//! Where each fault is looked for.
+//! The part of a file or an image to search for each fault.
 
 use super::extensions::ExtensionTopic;
 use super::fields::{
@@ -19,39 +19,39 @@ const OF_MEMORY: Search = Search::Elsewhere(
     "this fault is of the machine's memory, and not of an image",
 );
 
-/// What is searched for a fault. Fields are those that are shown.
+/// The search for a fault. `Field`s are those to print.
 #[derive(Clone, Copy)]
 pub(super) enum Search {
     /// Fields of a header that can't be loaded.
     Fields(&'static [Field]),
     /// Extensions of a header that can't be loaded.
     Extensions(ExtensionTopic),
-    /// Whether a header has room for what a change writes into it.
+    /// The room that a header has for what a change writes into it.
     Room(&'static [Field]),
-    /// Whether the image has version 2.
+    /// The version, if it is 2.
     Version(&'static [Field]),
-    /// Whether the image has an external data file.
+    /// The external data file, if the image has one.
     DataFile(&'static [Field]),
-    /// Whether the L1 table is long enough for the disk.
+    /// An L1 table that is too short for the disk.
     L1Length(&'static [Field]),
-    /// The parts of an image whose clusters aren't counted.
+    /// The parts of an image whose references aren't counted.
     UncountedParts,
-    /// All tables.
+    /// All tables and refcount blocks.
     Tables,
-    /// The counters and the uses of all clusters.
+    /// The refcounts and the references of all clusters.
     Clusters,
-    /// Whether each L2 table has one reference.
+    /// L2 tables that may have more than one reference.
     SharedTables,
-    /// Whether the file can be opened.
+    /// How the file can be opened.
     File,
-    /// Who has the file open.
+    /// The locks of programs that have the file open.
     Locks,
-    /// No image, for this reason.
+    /// Nothing in the image, for this reason.
     Elsewhere(&'static str),
 }
 
 impl Search {
-    /// What is looked at for a fault.
+    /// The search for a fault.
     pub(super) fn of(fault: Fault) -> Search {
         match fault {
             Fault::NotQcow2 => Search::Fields(&[MAGIC]),

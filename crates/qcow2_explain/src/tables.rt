@@ -1,4 +1,4 @@
-//! The first table of an image that is refused, and the entry for which it is.
+//! The search for the first refused table of an image, and the entry that it is refused for.
 
 ghost use Rattle.std.specs.Prelude.{◌≡◌, ◌≤◌, IsErrOf, IsOkUnless, length};
 ghost use Rattle.qcow2_base.specs.Format.{most_l1_entries, most_reftable_entries};
@@ -19,7 +19,7 @@ use qcow2_metadata::{
 };
 use std::alloc::{AllocError, Global};
 
-// A number in a table that is no entry: its index, its place in the image, and itself.
+// An invalid entry: its index, its offset in the image, and its value.
 #[derive(Clone, Copy)]
 struct BadEntry {
     index: usize,
@@ -27,7 +27,7 @@ struct BadEntry {
     number: u64,
 }
 
-// A table of an image: its kind, where it begins, and how many entries it has.
+// A table of an image: its kind, its header fields, its offset, and the number of its entries.
 #[derive(Clone, Copy)]
 struct TablePlace {
     kind: &'static str,
@@ -36,9 +36,8 @@ struct TablePlace {
     entries: usize,
 }
 
-/// The refusal of a table in an image with this header: one by this fault, if there is one, or else the
-/// first. They come in the order of the L1 table, L2 tables, the refcount table and its blocks. Changes no
-/// byte.
+/// The refusal of a table by this fault, or else of the first refused one. The order is the L1 table, L2
+/// tables, the refcount table and refcount blocks. Changes no byte.
 pub(super) fn table_refusal<S: Storage>(
     alloc: Global,
     image: &mut S,
@@ -58,7 +57,7 @@ pub(super) fn table_refusal<S: Storage>(
     Ok(of_counters)
 }
 
-// Why the L1 table is refused, or one of the L2 tables that it names.
+// The refusal of the L1 table, or of an L2 table that it names.
 fn guest_refusal<S: Storage>(
     alloc: Global,
     image: &mut S,
@@ -73,7 +72,7 @@ fn guest_refusal<S: Storage>(
     }
 }
 
-// Why the L1 table is refused by a fault.
+// The refusal of the L1 table by a fault of its load.
 fn l1_refusal<S: Storage>(
     alloc: Global,
     image: &mut S,
@@ -106,7 +105,7 @@ fn reftable_place(header: &Header) -> TablePlace {
     }
 }
 
-// Why the refcount table is refused, or one of its blocks.
+// The refusal of the refcount table, or of a refcount block that it names.
 fn reftable_refusal<S: Storage>(
     alloc: Global,
     image: &mut S,
@@ -126,7 +125,8 @@ fn reftable_refusal<S: Storage>(
     }
 }
 
-// Why a table is refused by a fault: by the first number that is no entry, or by where it lies.
+// The refusal of a table by a fault of its load, with the first invalid entry or the header fields that say
+// where it lies.
 fn refusal_at<S: Storage, E: TableEntry>(
     alloc: Global,
     image: &mut S,
@@ -157,7 +157,7 @@ fn entry_place(table: &TablePlace, bad: &BadEntry) -> Place {
     }
 }
 
-// The first number of a table that is no entry of its kind.
+// The first invalid entry of a table.
 fn first_bad<S: Storage, E: TableEntry>(
     image: &mut S,
     header: &Header,
@@ -180,7 +180,7 @@ fn first_bad<S: Storage, E: TableEntry>(
     Ok(None)
 }
 
-// The refusal of an L2 table that an L1 table names: one by this fault, or else the first.
+// The refusal of an L2 table that an L1 table names: the first by this fault, or else the first.
 fn l2_refusal<S: Storage>(
     alloc: Global,
     image: &mut S,
@@ -202,7 +202,7 @@ fn l2_refusal<S: Storage>(
     Ok(first)
 }
 
-// Why the L2 table of an L1 entry is refused, if there is one and it is.
+// The refusal of the L2 table that an L1 entry names, if the entry names one and it is refused.
 fn l2_refusal_at<S: Storage>(
     alloc: Global,
     image: &mut S,
@@ -227,7 +227,7 @@ fn l2_refusal_at<S: Storage>(
     Ok(Some(Refusal { fault, places }))
 }
 
-// The place of an entry of the L2 table of an L1 entry.
+// The place of an invalid entry in the L2 table of an L1 entry.
 fn guest_place(header: &Header, l1_index: usize, bad: &BadEntry) -> Place {
     let guest_cluster = l1_index
         .wrapping_mul(header.l2_entries())
@@ -239,7 +239,7 @@ fn guest_place(header: &Header, l1_index: usize, bad: &BadEntry) -> Place {
     }
 }
 
-// Why the blocks that a refcount table names can't all lie there, by the first that can't.
+// The refusal by the first entry of a refcount table whose block would end past 2^56.
 fn block_refusal(
     alloc: Global,
     header: &Header,
@@ -295,7 +295,7 @@ pub(super) fn l2_table_past(
     )
 }
 
-// The place of the entry of a table at an index, which is this number.
+// The place of the table entry at an index, with this value.
 fn pointer_place(table: &TablePlace, index: usize, number: u64) -> Place {
     let offset = entry_offset(table.offset, index);
     let entry = BadEntry {
@@ -306,7 +306,7 @@ fn pointer_place(table: &TablePlace, index: usize, number: u64) -> Place {
     entry_place(table, &entry)
 }
 
-/// A place as a list of places, or an empty list where there is none.
+/// A list with the place, if there is one.
 pub(super) fn places_of(alloc: Global, place: Option<Place>) -> Result<Vec<Place>, AllocError> {
     let mut places = Vec::new(alloc);
     if let Some(place) = place {
