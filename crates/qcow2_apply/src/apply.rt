@@ -1,4 +1,4 @@
-//! Edits of a disk, with the counters of the clusters that gain and lose references by them.
+//! Edits of guest ranges, with the refcounts of the clusters that gain and lose references by them.
 
 ghost use Rattle.std.specs.Prelude.{◌≡◌, ◌≢◌, ℕ, IfErr, IfOk, IsOkUnless, MatchResult, OnOk};
 ghost use Rattle.qcow2_base.specs.Storage.{Image, OnImage, OnImages, SameOutside};
@@ -14,8 +14,8 @@ use qcow2_base::{Device, Fault, Storage};
 use qcow2_metadata::{Header, L2Table, RefBlock};
 use std::alloc::Global;
 
-// The table and the refcount block that all others are read over. They are there before the first write, so
-// memory can't run out after it.
+// The table and the refcount block that all others are read into. They are allocated before the first write,
+// so that memory can't run out after it.
 #[derive(Drop)]
 struct Workspace {
     table: L2Table,
@@ -35,8 +35,8 @@ impl Workspace {
 }
 
 impl Plan {
-    // Makes the edits that are planned: counts what clusters gain, edits the tables, and counts what
-    // clusters lose. Each part is on the device before the next begins.
+    // Makes the planned edits: raises the refcounts of clusters that gain references, edits the tables, and
+    // lowers the refcounts of those that lose references. Syncs each part to the device before the next.
     fn make<S: Device>(
         &self,
         image: &mut S,
@@ -79,8 +79,8 @@ impl Plan {
 }
 
 impl Plan {
-    // Clears autoclear features, in the image and in its header, and makes the edits that are planned of it.
-    // That is on the device before these begin.
+    // Clears the autoclear features of the image and of `header`, syncs that to the device, and makes the
+    // planned edits.
     fn carry_out<S: Device>(
         &self,
         image: &mut S,
@@ -102,26 +102,32 @@ impl Plan {
     }
 }
 
-/// Makes edits of a disk in an image with this header, and lets the counters of the image's clusters follow.
-/// Returns what becomes of clusters by them.
+/// Makes edits of guest ranges in an image with this header, and updates the refcounts of the host clusters
+/// concerned. Returns the clusters that become free, and those that lost or gained references and are in use.
 ///
-/// All is looked at first, and refused where something can't be: by 41 where the L1 table is too short for
-/// the disk; by 36 with an external data file; by 32 and the position of the first edit that doesn't fit the
-/// disk; by 27 for zeros in version 2; by the faults of the L1 table and of the refcount table, and by 21
-/// where the image ends before a table or block that it names, as `refuse_tables_past_end` of `qcow2_check`
-/// says. Then by table, in their order: by 23 where there is none, but for discards; by 40 and the position
-/// of the first of its edits where its counter isn't 1 or its L1 entry isn't copied; by those of its load;
-/// for a mapped cluster by 23 where it has no counter, and by 32 where that isn't 0 or another edit maps it.
-/// Last by 30 where a counter can't follow. Whether mapped clusters lie before the image's end isn't looked
-/// at.
+/// Checks everything before the first write. The refusals are, in this order:
 ///
-/// Then autoclear features are cleared, in the header too. What clusters gain is counted before tables are
-/// edited, and what they lose after that, each on the device before the next begins. So where no cluster is
-/// that of two tables or blocks, or the header's, what is left by a fault has no counter that is less than
-/// its uses where it wasn't before, but for what a torn write leaves. After 34 a part of this may be done,
-/// and any bytes may be in one table or block. So the call must not be made again: check the image, and
-/// repair it. In such an image no byte has changed after any other fault. Memory is taken before the first
-/// write, so after 35 no byte has changed in any image.
+/// - 41 if the L1 table is too short for the disk;
+/// - 36 with an external data file;
+/// - 32 and the position of the first edit that doesn't fit the disk;
+/// - 27 for zeros in version 2;
+/// - the faults of the L1 table and of the refcount table, and 21 if the image ends before a table or block
+///   that it names, as in `refuse_tables_past_end` of `qcow2_check`;
+/// - for each L2 table in order: 23 if it is missing, except for discards; 40 and the position of its first
+///   edit if its refcount isn't 1 or its L1 entry has no copied flag; a fault of its load; for a mapped
+///   cluster 23 if no refcount block counts it, and 32 if its refcount isn't 0 or another edit maps it;
+/// - 30 if a refcount can't follow.
+///
+/// Doesn't check that mapped clusters lie before the image's end.
+///
+/// Then clears the autoclear features, in `header` too, raises the refcounts of clusters that gain
+/// references, edits the tables, and lowers the refcounts of clusters that lose references. Syncs each part
+/// to the device before the next. So if no cluster belongs to two tables or blocks, or to one of them and the
+/// header, a fault leaves no refcount lower than its references that wasn't before, one torn write aside.
+///
+/// After 34 some of this may be done, and any bytes may be in one table or block: don't repeat the call, but
+/// check the image and repair it. In an image as above no byte has changed after any other fault. All memory
+/// is allocated before the first write, so after 35 no byte has changed in any image.
 pub fn apply_edits<S: Device>(
     alloc: Global,
     image: &mut S,

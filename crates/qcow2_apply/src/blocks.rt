@@ -1,4 +1,4 @@
-//! Counters in an image that follow changes.
+//! Updates of the refcounts in an image after changes of references.
 
 ghost use Rattle.std.specs.Prelude.{◌≡◌, ◌⊎◌, ◌+◌, ◌<◌, false, IfErr, IfOk, MatchResult, None, OnOk, Some, slice_index, true};
 ghost use Rattle.qcow2_base.specs.Storage.{OnImage, OnImages, OnlyReads, OnlyWrites};
@@ -19,8 +19,8 @@ use qcow2_check::named_block;
 use qcow2_edits::Outcome;
 use qcow2_metadata::{Header, RefBlock, RefTable, Table};
 
-// Lets the counters of the block that begins with a cluster follow what their clusters gained and lost. It is
-// read over another block.
+// Reads the refcount block at a cluster into `block`, and updates its refcounts by what their clusters gained
+// and lost.
 fn follow_block<S: Storage>(
     image: &mut S,
     tables: &CounterTables<'_>,
@@ -51,8 +51,8 @@ fn follow_block<S: Storage>(
     block.write_changes(image, cluster)
 }
 
-// The same of the block at an index of the refcount table, if its clusters gained or lost something. Where
-// there is no block, nothing is done.
+// The same for the block at an index of the refcount table. Does nothing if the index names no block, or no
+// cluster of it gained or lost references.
 fn follow_at<S: Storage>(
     image: &mut S,
     tables: &CounterTables<'_>,
@@ -84,13 +84,13 @@ fn follow_at<S: Storage>(
     follow_block(image, tables, block, cluster, index, changes, outcome)
 }
 
-/// Lets all counters of an image follow what their clusters gained and lost, and waits until they are on the
-/// device. Each refcount block is read over the given one, and its changed pieces are written once at most,
-/// so no memory is taken. Clusters that no block counts are passed over.
+/// Updates all refcounts of an image by what their clusters gained and lost, and syncs them to the device.
+/// Reads each refcount block into `block` and writes its changed pieces at most once, so it takes no memory.
+/// Skips clusters that no block counts.
 ///
-/// All that a cluster gained is counted before what it lost. Returns 30 where a counter can't count both so.
-/// After a fault some counters may have followed, so the call must not be made again; where the storage
-/// failed, any bytes may be in one block besides.
+/// Adds all gains of a cluster before it subtracts losses. Returns 30 if a refcount can't hold both so. After
+/// a fault some refcounts may be updated, so the call must not be repeated. If the storage failed, any bytes
+/// may also be in one block.
 pub fn follow_changes<S: Device>(
     image: &mut S,
     tables: &CounterTables<'_>,

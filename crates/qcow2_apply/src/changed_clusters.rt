@@ -1,4 +1,4 @@
-//! What becomes of the clusters that edits of a disk give references, or take them from.
+//! The effect of edits on the clusters that gain or lose references.
 
 ghost use Rattle.std.specs.Prelude.{◌≡◌, ◌⊎◌, ℕ, ◌+◌, ◌*◌, ◌^◌, ◌≤◌, ◌<◌, IfErr, IfOk, IsOkUnless, None, OnOk, false, length};
 ghost use Rattle.qcow2_base.specs.Storage.{OnImage, OnlyReads};
@@ -18,25 +18,27 @@ use qcow2_check::named_block;
 use qcow2_metadata::{ClustersToFreeEntry, Header, RefBlock, Table};
 use std::alloc::Global;
 
-/// A cluster that loses a reference and has others, and its counter then.
+/// A cluster that loses a reference and still has others, and its refcount after that.
 #[derive(Clone, Copy, Debug, PartialEq, Eq)]
 pub struct KeptCluster {
     pub cluster: HostCluster,
     pub counter: u64,
 }
 
-/// What becomes of clusters by edits of a disk, each list in the order of clusters.
+/// The clusters that edits free, leave with fewer references, or give one. Each list is in the order of
+/// clusters.
 #[derive(Debug, Drop)]
 pub struct ChangedClusters {
-    /// Those that lose a reference and have none then, in as few ranges as can be.
+    /// Clusters that lose references and have none after that, in as few ranges as possible.
     pub freed: Vec<ClustersToFreeEntry>,
-    /// Those that lose one and have others.
+    /// Clusters that lose references and still have others.
     pub kept: Vec<KeptCluster>,
-    /// Those that gain one.
+    /// Clusters that gain references.
     pub gained: Vec<HostCluster>,
 }
 
-// Lists a cluster by its counter: before, with what it gains, and without what it loses.
+// Adds a cluster to the lists, by its refcount `before` the edits, after its gains (`risen`) and after its
+// losses (`after`).
 fn list_cluster(
     clusters: &mut ChangedClusters,
     cluster: HostCluster,
@@ -71,7 +73,7 @@ fn list_cluster(
     )
 }
 
-// Lists the clusters of a block from its first one on, by their counters.
+// Adds the clusters of a block to the lists, by their refcounts. `first` is the block's first cluster.
 fn list_block(
     clusters: &mut ChangedClusters,
     first: u64,
@@ -96,8 +98,8 @@ fn list_block(
     Ok(())
 }
 
-// Lists the clusters whose counters are in the block that the refcount table names at an index, by that block
-// as it is.
+// Adds the clusters of the refcount block at an index of the refcount table to the lists. `before` is the
+// block as it is.
 fn list_named<S: Storage>(
     image: &mut S,
     tables: &CounterTables<'_>,
@@ -131,7 +133,8 @@ fn list_named<S: Storage>(
     list_block(clusters, first, before, &risen, &after)
 }
 
-// The same of the block at an index, if there is one and clusters gained or lost something.
+// The same for the block at an index. Does nothing if the index names no block, or no cluster of it gained or
+// lost references.
 fn list_at<S: Storage>(
     alloc: Global,
     image: &mut S,
@@ -165,7 +168,7 @@ fn list_at<S: Storage>(
     )
 }
 
-/// What becomes of all clusters whose counters follow changes. Returns 30 where one can't.
+/// Lists the clusters whose refcounts change. Returns 30 if a refcount can't follow.
 pub(crate) fn list_changed<S: Storage>(
     alloc: Global,
     image: &mut S,

@@ -1,4 +1,4 @@
-//! What edits do to the counters of an image, by the refcount blocks that count the clusters.
+//! The changes that edits make to the refcounts of an image, by refcount block.
 
 ghost use Rattle.qcow2_base.specs.Types.{IsRefblockBits};
 
@@ -9,8 +9,8 @@ mod adding;
 
 pub(crate) use adding::{joined, push_clusters};
 
-/// What clusters of an image gain and lose, by the index of the refcount block that counts them. Clauses see
-/// how often each cluster gains and loses a reference.
+/// The references that clusters of an image gain and lose, by the index of the refcount block that counts
+/// them. Contracts see how many each cluster gains and loses.
 #[derive(Drop)]
 pub struct Changes {
     rb_bits: u32,

@@ -1,4 +1,4 @@
-//! Counters of a block in memory that follow changes, and the tables that say where blocks are.
+//! Updates of the refcounts of a block in memory, and the tables that say where refcount blocks lie.
 
 ghost use Rattle.std.specs.Prelude.{◌≡◌, ◌⊎◌, ℕ, false, IfErr, IfOk, None, OnOk, Some, true};
 ghost use Rattle.qcow2_base.specs.Storage.{OnImage, OnlyReads};
@@ -19,7 +19,8 @@ use qcow2_metadata::{Header, RefBlock, RefTable, Table};
 use std::alloc::Global;
 use std::marker::Model;
 
-/// The tables of an image that say where its counters are. Clauses see them as what they say.
+/// The header and the refcount table of an image, which say where its refcounts are. Contracts see the header
+/// and the table's entries.
 #[derive(Drop)]
 pub struct CounterTables<'a> {
     pub header: &'a Header,
@@ -40,7 +41,7 @@ impl<'a> Model for CounterTables<'a> {
         × (blocks_fault t.header.now t.reftable.now.numbers ≡ None) };
 }
 
-/// Lets the counters of a block follow what their clusters gained and lost. The index is the block's in the
+/// Updates the refcounts of a block by what their clusters gained and lost. `index` is the block's in the
 /// refcount table.
 pub(crate) fn follow(
     block: &mut RefBlock,
@@ -64,7 +65,7 @@ pub(crate) fn follow(
     settle(block, tables.header, index, outcome)
 }
 
-// The same by what changes have for the block, if they have something.
+// The same, if `changes` has any for the block.
 fn follow_if_changed(
     block: &mut RefBlock,
     tables: &CounterTables<'_>,
@@ -87,7 +88,7 @@ fn follow_if_changed(
     }
 }
 
-/// Loads the block that begins with a cluster, and lets its counters follow changes in memory.
+/// Loads the refcount block at a cluster, and updates its refcounts in memory.
 pub(crate) fn load_followed<S: Storage>(
     alloc: Global,
     image: &mut S,
@@ -112,8 +113,7 @@ pub(crate) fn load_followed<S: Storage>(
     Ok(block)
 }
 
-/// The same of the block that the refcount table names at an index, by gains and then by losses. Returns 30
-/// where a counter can't follow both so.
+/// The same by gains and then by losses. Returns 30 if a refcount can't hold both so.
 pub(crate) fn load_left<S: Storage>(
     alloc: Global,
     image: &mut S,

@@ -1,4 +1,4 @@
-//! Which edits of a disk are of which L2 table, so that none is looked at for another.
+//! The edits of each L2 table, so that none is tried on a table that it doesn't concern.
 
 ghost use Rattle.std.specs.Prelude.{◌≡◌, ◌==◌, ◌++◌, ◌∷◌, ℕ, [], if◌then◌else◌, IfOk, IsOkUnless, OnOk, true};
 ghost use Rattle.qcow2_base.specs.declared.fault.Fault.TheVariants.{NoMemory};
@@ -14,15 +14,16 @@ use qcow2_metadata::{Header, L1Table, Table};
 use std::alloc::Global;
 use std::collections::BTreeMap;
 
-/// Edits of a disk by the L2 tables that they are of: which of them have guest clusters of a table.
+/// The positions of edits of guest ranges, by the L2 tables that map a part of their ranges.
 #[derive(Drop)]
 pub struct EditsByTable {
     positions: BTreeMap<usize, Vec<usize>>,
 }
 
 impl EditsByTable {
-    /// Those of edits that fit a disk of this header, by the tables that the L1 table names. Fails where
-    /// memory runs out. Takes memory and time by the number of edits, and by that of the tables of each.
+    /// Groups edits that fit a disk of this header by the L2 tables that the L1 table names. Fails if memory
+    /// runs out. Takes memory and time in proportion to the number of edits and of the tables that each
+    /// concerns.
     pub fn of(
         alloc: Global,
         header: &Header,
@@ -43,7 +44,7 @@ impl EditsByTable {
         Ok(by_table)
     }
 
-    // Keeps the position of an edit for the tables that it is of.
+    // Adds the position of an edit to each table that it concerns.
     fn add(
         &mut self,
         alloc: Global,
@@ -67,7 +68,7 @@ impl EditsByTable {
         Ok(())
     }
 
-    // Keeps a position for the table of the L1 entry at an index.
+    // Adds a position to the table of the L1 entry at an index.
     fn keep(&mut self, alloc: Global, index: usize, position: usize) -> Result<(), Fault>
         ensures kept { OnOk result ((i : ℕ) → kept_positions self.new i
             ≡ kept_positions self.old i ++ (if i == index then position ∷ [] else [])) }
@@ -78,7 +79,7 @@ impl EditsByTable {
         Ok(())
     }
 
-    /// The positions of the edits of the table of the L1 entry at an index, in their order.
+    /// The positions of the edits that concern the table of the L1 entry at an index, in order.
     pub fn positions_in(&self, index: usize) -> &[usize]
         ensures { result.now ≡ kept_positions self.now index }
     {

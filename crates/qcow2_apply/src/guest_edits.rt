@@ -1,4 +1,4 @@
-//! Edits of a guest's disk by its offsets, and the edits of the entries of L2 tables that they are.
+//! Edits of guest ranges, and the edits of L2 entries that they consist of.
 
 ghost use Rattle.std.specs.Prelude.{◌≡◌, ℕ, ◌*◌, ◌+◌, ◌^◌, ◌<◌, ◌≤◌, ◌++◌, ◌&&◌, IfOk, Ok, OnOk, map, nat_le, nat_lt, not, true};
 ghost use Rattle.std.specs.List.{flat_map, list_any, position, range_with_len};
@@ -15,23 +15,23 @@ use qcow2_edits::Edit;
 use qcow2_metadata::{Header, L2Table};
 use std::alloc::{AllocError, Global};
 
-/// A change of what a range of a guest's disk reads as. Offsets and lengths are in bytes, and multiples of
-/// the cluster size.
+/// A change of what a guest range reads as. Offsets and lengths are in bytes, and multiples of the cluster
+/// size.
 #[derive(Clone, Copy, Debug, PartialEq, Eq)]
 pub enum GuestEdit {
-    /// One guest cluster reads as data in a host cluster that has no other reference.
+    /// One guest cluster reads as the data of a host cluster that has no other reference.
     Map {
         offset: GuestOffset,
         host_cluster: HostCluster,
     },
-    /// A range reads as zeros, as entries of version 3 can say. With `keep_allocation` an entry keeps its
-    /// host cluster, but compressed data is given up all the same.
+    /// A range reads as zeros, which needs version 3. With `keep_allocation` an entry keeps its host cluster,
+    /// except that compressed data is always freed.
     Zero {
         offset: GuestOffset,
         length: u64,
         keep_allocation: bool,
     },
-    /// A range has no data.
+    /// A range is discarded: it has no data.
     Discard {
         offset: GuestOffset,
         length: u64,
@@ -39,7 +39,7 @@ pub enum GuestEdit {
 }
 
 impl GuestEdit {
-    /// Where the range begins.
+    /// The offset of the range.
     #[inline]
     pub fn offset(&self) -> GuestOffset
         ensures { result ≡ guest_offset self.now }
@@ -51,7 +51,7 @@ impl GuestEdit {
         }
     }
 
-    /// How many bytes it has: one cluster, where it is mapped.
+    /// The length of the range in bytes: one cluster for a mapping.
     #[inline]
     pub fn length(&self, cluster_bits: u32) -> u64
         requires { IsClusterBits cluster_bits }
@@ -63,7 +63,7 @@ impl GuestEdit {
         }
     }
 
-    /// Whether it makes zeros.
+    /// Whether it writes zeros.
     #[inline]
     pub fn is_zeros(&self) -> bool
         ensures { result ≡ is_zeros self.now }
@@ -74,7 +74,7 @@ impl GuestEdit {
         }
     }
 
-    /// Whether it takes data away, for which an L2 table needn't be there.
+    /// Whether it discards data, which needs no L2 table.
     #[inline]
     pub fn is_discard(&self) -> bool
         ensures { result ≡ is_discard self.now }
@@ -85,7 +85,7 @@ impl GuestEdit {
         }
     }
 
-    // The edit of the entry at an index of an L2 table.
+    // The edit of the L2 entry at an index.
     #[inline]
     fn at(&self, index: usize) -> Edit
         ensures { result ≡ edit_at self.now index }
@@ -106,7 +106,7 @@ impl GuestEdit {
         }
     }
 
-    // Whether the host cluster that it maps to, if it does, can be that of an entry.
+    // Whether an entry can refer to the host cluster that the edit maps. True if it maps none.
     fn is_mappable(&self, header: &Header) -> bool
         ensures { result ≡ is_mappable_by header.now self.now }
     {
@@ -119,7 +119,7 @@ impl GuestEdit {
         }
     }
 
-    // The first guest cluster, and the one after the last.
+    // The first guest cluster of the range, and the one after the last.
     #[tactic(auto, using(crate::proofs::GuestEditsLemmas::sum_fits))]
     fn clusters(&self, cluster_bits: u32) -> (u64, u64)
         requires { IsClusterBits cluster_bits }
@@ -131,9 +131,8 @@ impl GuestEdit {
         (first, first + length.cluster(cluster_bits).0)
     }
 
-    /// Whether the edit can be made of a disk of this header: its range begins and ends with clusters, has
-    /// at least one, and no more than the disk. A mapped host cluster isn't the header's, and an entry can
-    /// refer to it.
+    /// Whether the edit fits a disk of this header: its range is one or more whole clusters of the disk, and
+    /// an entry can refer to the host cluster that it maps, which isn't the header's.
     pub fn fits(&self, header: &Header) -> bool
         ensures { result ≡ guest_edit_fits header.now self.now }
     {
@@ -147,7 +146,7 @@ impl GuestEdit {
             && self.is_mappable(header)
     }
 
-    // The guest clusters of the range that the L2 table of an L1 entry has: the first, and the one after the
+    // The guest clusters of the range that the L2 table of an L1 entry maps: the first, and the one after the
     // last.
     fn clusters_in(&self, cluster_bits: u32, l1_index: usize) -> (u64, u64)
         requires bits { IsClusterBits cluster_bits }
@@ -161,7 +160,7 @@ impl GuestEdit {
         (first.max(of_table), end.min(of_table + entries))
     }
 
-    /// Whether it has guest clusters of the L2 table of an L1 entry of a disk of this header.
+    /// Whether the L2 table of an L1 entry maps guest clusters of the range.
     pub fn has_clusters_in(&self, header: &Header, l1_index: u32) -> bool
         ensures { result ≡ has_clusters_in header.now.v2.cluster_bits l1_index self.now }
     {
@@ -169,7 +168,7 @@ impl GuestEdit {
         start < end
     }
 
-    /// The L1 entries of the L2 tables that it has guest clusters of, where it fits the disk: the first, and
+    /// The L1 entries whose L2 tables map guest clusters of the range, if it fits the disk: the first, and
     /// the one after the last.
     pub fn tables(&self, header: &Header) -> (usize, usize)
         requires fits { guest_edit_fits header.now self.now ≡ true }
@@ -185,7 +184,7 @@ impl GuestEdit {
         )
     }
 
-    /// Whether it has guest clusters after those of all L1 entries of a disk of this header.
+    /// Whether the range has guest clusters after those of all L1 entries.
     pub fn ends_after(&self, header: &Header) -> bool
         ensures { result ≡ ends_after header.now.v2.cluster_bits header.now.v2.l1_size self.now }
     {
@@ -193,7 +192,8 @@ impl GuestEdit {
         (header.l1_table_entries() as u64) << (header.cluster_bits() - 3) < end
     }
 
-    /// Makes the edits of the L2 table of an L1 entry that this one is, which fits the disk. Takes no memory.
+    /// Makes the part of the edit that concerns the L2 table of an L1 entry. The edit must fit the disk.
+    /// Takes no memory.
     pub(crate) fn make_in(&self, table: &mut L2Table, header: &Header, l1_index: usize)
         requires index { l1_index < 2 ^ 32 }
         requires table { IsL2TableOf header.now table.old }
@@ -209,7 +209,7 @@ impl GuestEdit {
         }
     }
 
-    // Appends the edits of the L2 table of an L1 entry that this one is.
+    // Appends the entry edits of this edit that concern the L2 table of an L1 entry.
     fn push_edits(
         &self,
         edits: &mut Vec<Edit>,
@@ -228,7 +228,7 @@ impl GuestEdit {
     }
 }
 
-/// The position of the first edit that can't be made of a disk of this header, if there is one.
+/// The position of the first edit that doesn't fit a disk of this header, if there is one.
 pub fn first_unfit(header: &Header, edits: &[GuestEdit]) -> Option<usize>
     ensures { result ≡ first_unfit_of header.now edits.now }
 {
@@ -239,7 +239,7 @@ pub fn first_unfit(header: &Header, edits: &[GuestEdit]) -> Option<usize>
     )
 }
 
-/// The position of the first edit that has clusters of the L2 table of an L1 entry, if there is one.
+/// The position of the first edit that concerns the L2 table of an L1 entry, if there is one.
 pub(crate) fn first_in(edits: &[GuestEdit], header: &Header, index: u32) -> Option<usize>
     ensures { result ≡ position (has_clusters_in header.now.v2.cluster_bits index) edits.now }
 {
@@ -250,7 +250,9 @@ pub(crate) fn first_in(edits: &[GuestEdit], header: &Header, index: u32) -> Opti
     )
 }
 
-/// Refuses edits that can't be made of any disk of this header.
+/// Refuses edits that no image with this header allows, in this order: if its L1 table is too short for the
+/// disk (fault 41) or it has an external data file (36), edits that don't fit the disk (32), and zeros in
+/// version 2 (27).
 pub(crate) fn check_edits(header: &Header, edits: &[GuestEdit]) -> Result<(), Fault>
     ensures { result ≡ unless_refused (edits_refusal header.now edits.now) (Ok tt) }
 {
@@ -267,7 +269,7 @@ pub(crate) fn check_edits(header: &Header, edits: &[GuestEdit]) -> Result<(), Fa
     Ok(())
 }
 
-// Whether an edit makes zeros.
+// Whether one of the edits writes zeros.
 fn has_zeros(edits: &[GuestEdit]) -> bool
     ensures { result ≡ list_any is_zeros edits.now }
 {
@@ -278,7 +280,7 @@ fn has_zeros(edits: &[GuestEdit]) -> bool
     )
 }
 
-/// The edits of the L2 table of an L1 entry that edits of a disk are, in their order.
+/// The entry edits that concern the L2 table of an L1 entry, in the order of the edits.
 pub fn edits_in(
     alloc: Global,
     edits: &[GuestEdit],
@@ -296,7 +298,7 @@ pub fn edits_in(
     Ok(list)
 }
 
-/// The same by the positions of the edits that are of the table.
+/// The same from the positions of the edits that concern the table.
 pub(crate) fn edits_at(
     alloc: Global,
     edits: &[GuestEdit],

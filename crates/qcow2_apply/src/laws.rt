@@ -22,9 +22,9 @@ ghost use Rattle.qcow2_apply.specs.PlannedTables.{counter_tables};
 ghost use Rattle.qcow2_apply.specs.declared.guest_edits.GuestEdit.{GuestEdit};
 ghost use Rattle.qcow2_apply.specs.declared.plan.Plan.{Plan};
 
-/// Where edits of a disk were made in an image whose tables and blocks are apart, at each cluster that has a
-/// counter, this and the uses before are together as many as the counter before and the uses after. So a
-/// counter that was right is right, and one that was at least the uses is so still.
+/// After edits of an image whose tables and blocks don't overlap, each cluster that a refcount block counts
+/// satisfies: refcount after + references before = refcount before + references after. So a right refcount
+/// stays right, and one that was at least the number of references still is.
 pub fn counters_follow_uses_of_clusters()
     ensures { (header : HeaderRecord) (edits : List GuestEdit) (plan : Plan) (old new : Image) →
         IsValidHeader header → IsPlanFor header edits plan → IsPlanOf header edits old plan →
@@ -35,10 +35,10 @@ pub fn counters_follow_uses_of_clusters()
         ≡ counter_of_cluster (counter_tables tables) old c + uses_of (image_uses tables new) c }
 {}
 
-/// Where edits of a disk broke off by a fault, in an image whose tables and blocks are apart, each counter
-/// is at least as far above the uses of its cluster as before, but for one write of a table or block that
-/// may be torn, and that only where the storage failed. So a counter that was at least the uses is so
-/// still, and one that counts references of a snapshot besides still does.
+/// If edits of an image whose tables and blocks don't overlap end in a fault, each refcount exceeds its
+/// references by at least as much as before. One write of a table or block may be torn, but only if the
+/// storage failed. So a refcount that was at least the number of references still is, and one that also
+/// counts references of a snapshot still does.
 pub fn edits_that_break_off_make_no_counter_too_low()
     ensures { (header : HeaderRecord) (edits : List GuestEdit) (plan : Plan) (fault : Fault)
         (old new : Image) → IsValidHeader header → IsPlanFor header edits plan →
@@ -48,14 +48,14 @@ pub fn edits_that_break_off_make_no_counter_too_low()
         × KeepDistance (plan_tables header plan) old mid }
 {}
 
-/// Where the machine crashes while edits of a disk are made, in an image whose tables and blocks are apart,
-/// each counter is at least as far above the uses of its cluster as before, whichever of the sectors are lost
-/// that were written since the device was last waited for. So a counter that was at least the uses is so
-/// still, and one that counts references of a snapshot besides still does. What is left too high is a leak.
+/// If the machine crashes during edits of an image whose tables and blocks don't overlap, each refcount
+/// exceeds its references by at least as much as before, whichever sectors written since the last sync are
+/// lost. So a refcount that was at least the number of references still is, and one that also counts
+/// references of a snapshot still does. A refcount left too high is a leak.
 ///
-/// This assumes of a device that it keeps all that was written before it was last waited for, and writes a
-/// sector of 512 bytes whole or not at all. Of edits it assumes that they wait for it between their parts,
-/// and write each table or block once in one. Contracts know of no device, so tests show both of edits.
+/// The law assumes that the device keeps everything written before the last sync, and writes a sector of 512
+/// bytes whole or not at all. It assumes that the edits sync between their parts, and write each table or
+/// block at most once in a part. Contracts don't model the device, so tests show that the edits do both.
 pub fn a_crash_makes_no_counter_too_low()
     ensures { (header : HeaderRecord) (edits : List GuestEdit) (plan : Plan) (old crashed : Image) →
         IsValidHeader header → IsPlanFor header edits plan → IsPlanOf header edits old plan →
@@ -63,33 +63,34 @@ pub fn a_crash_makes_no_counter_too_low()
         KeepDistance (plan_tables header plan) old crashed }
 {}
 
-/// Where nothing is found of an image, and no two L1 entries name one L2 table, its tables and blocks are
-/// apart, as the other laws ask.
+/// If an image has no findings, and no two L1 entries name the same L2 table, its tables and blocks don't
+/// overlap, as the other laws require.
 pub fn tables_and_blocks_are_apart_where_nothing_is_found()
     ensures { (tables : ImageTables) (image : Image) → AreRight tables image 0 max_file_length →
         blocks_fault tables.header tables.reftable ≡ None → ArePlacesApart (l2_tables_of tables) →
         AreAllApart tables }
 {}
 
-/// They are so where an image has no errors: leaked clusters and late flags don't matter.
+/// The same holds for an image without errors: leaked clusters and copied flags that are wrongly clear don't
+/// matter.
 pub fn tables_and_blocks_are_apart_where_there_are_no_errors()
     ensures { (tables : ImageTables) (image : Image) → HasNoErrors tables image →
         blocks_fault tables.header tables.reftable ≡ None → ArePlacesApart (l2_tables_of tables) →
         AreAllApart tables }
 {}
 
-/// Where edits of a disk were made in an image that begins with the header, and whose tables and blocks are
-/// apart, the image begins then with the header that they leave, which is the same without autoclear
-/// features. This asks that no byte of the backing file's name is one of those that are cleared.
+/// After edits of an image that begins with this header, and whose tables and blocks don't overlap, the image
+/// begins with the header that the edits leave: the same without autoclear features. This requires that no
+/// byte of the backing file's name is among the bytes that are cleared.
 pub fn an_image_has_the_header_that_edits_leave()
     ensures { (header : HeaderRecord) (edits : List GuestEdit) (plan : Plan) (old new : Image) →
         header_of old ≡ Ok header → LosesNoName header → FollowsPlan header edits plan (Ok tt) old new →
         AreAllApart (plan_tables header plan) → header_of new ≡ Ok (without_autoclear header) }
 {}
 
-/// Where edits of a disk were made in an image without errors, of which no two L1 entries name one L2 table,
-/// it has none: no cluster is missing or shared, and no flag is false. Leaked clusters and late flags may
-/// have been there, and new late flags may be.
+/// After edits of an image without errors, in which no two L1 entries name the same L2 table, the image has
+/// no errors: no missing or shared cluster, and no copied flag that is wrongly set. Leaked clusters and flags
+/// that are wrongly clear may have been there, and more such flags may appear.
 pub fn edits_bring_no_errors()
     ensures { (header : HeaderRecord) (edits : List GuestEdit) (plan : Plan) (old new : Image) →
         IsValidHeader header → IsPlanFor header edits plan → IsPlanOf header edits old plan →
@@ -97,8 +98,8 @@ pub fn edits_bring_no_errors()
         ArePlacesApart (l2_tables_of tables) → HasNoErrors tables old → HasNoErrors tables new }
 {}
 
-/// Where edits of a disk were made in an image whose tables and blocks are apart, whatever its errors, and no
-/// cluster was leaked, none is.
+/// After edits of an image whose tables and blocks don't overlap, whatever its errors, no cluster is leaked
+/// if none was before.
 pub fn edits_leak_no_clusters()
     ensures { (header : HeaderRecord) (edits : List GuestEdit) (plan : Plan) (old new : Image) →
         IsValidHeader header → IsPlanFor header edits plan → IsPlanOf header edits old plan →
@@ -106,9 +107,9 @@ pub fn edits_leak_no_clusters()
         AreAllApart tables → HasNoLeaks tables old → HasNoLeaks tables new }
 {}
 
-/// So a check finds no errors after edits of a disk where it found none before, and no leaks where it found
-/// none. It can read all tables still: the L1 table and the refcount table are the same, and all L2 tables
-/// load. This asks that no two L1 entries name one L2 table.
+/// So a check finds no errors after edits if it found none before, and no leaks if it found none. It can
+/// still read all tables: the L1 table and the refcount table are the same, and all L2 tables load. This
+/// requires that no two L1 entries name the same L2 table.
 pub fn a_check_finds_no_errors_after_edits_where_it_found_none()
     ensures { (header : HeaderRecord) (edits : List GuestEdit) (plan : Plan) (old new : Image)
         (tables : ImageTables) → IsValidHeader header → IsPlanFor header edits plan →

@@ -1,4 +1,4 @@
-//! Edits of guest ranges of an image: what they need, what they do to counters and clusters, how they are
+//! Edits of guest ranges of an image: what they require, how they change clusters and refcounts, how they are
 //! made, and laws on what they preserve.
 #![tactic(auto)]
 

@@ -1,4 +1,4 @@
-//! Which host clusters edits of a disk map, and which of these once.
+//! The host clusters that edits map, and which of them only one edit maps.
 
 ghost use Rattle.std.specs.Prelude.{◌≡◌, ℕ, ◌==◌, IfOk, OnOk};
 ghost use Rattle.qcow2_apply.specs.MappedClusters.{CountsMapping, HoldsMappings, mark_of_times, mapping_mark};
@@ -8,14 +8,14 @@ use qcow2_base::HostCluster;
 use std::alloc::{AllocFailed, Global};
 use std::collections::BTreeMap;
 
-/// The host clusters that edits map, and of each whether one edit does.
+/// The host clusters that edits map, and for each whether only one edit does.
 #[derive(Drop)]
 pub(crate) struct MappedClusters {
     are_sole: BTreeMap<u64, bool>,
 }
 
 impl MappedClusters {
-    /// Those that these edits map.
+    /// Collects the host clusters that these edits map.
     pub(crate) fn of(
         alloc: Global,
         edits: &[GuestEdit],
@@ -31,7 +31,7 @@ impl MappedClusters {
         Ok(mapped)
     }
 
-    // Counts the mapping that an edit is, if it is one.
+    // Adds the host cluster of an edit, if it maps one.
     fn add(&mut self, edit: &GuestEdit) -> Result<(), AllocFailed<(u64, bool)>>
         ensures { OnOk result (CountsMapping edit.now self.old self.new) }
     {
@@ -43,7 +43,7 @@ impl MappedClusters {
         Ok(())
     }
 
-    /// Whether one edit maps a host cluster.
+    /// Whether exactly one edit maps a host cluster.
     pub(crate) fn is_sole(&self, cluster: HostCluster) -> bool
         ensures { (times : ℕ) → mapping_mark self.now cluster.0 ≡ mark_of_times times →
             result ≡ (times == 1) }

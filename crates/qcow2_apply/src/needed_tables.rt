@@ -1,4 +1,4 @@
-//! Which L2 tables edits of a disk need, and which of them aren't there.
+//! The L2 tables that edits need, and which of them are missing.
 
 ghost use Rattle.std.specs.Prelude.{◌≡◌, ◌&&◌, length, not, true};
 ghost use Rattle.std.specs.List.{list_any};
@@ -12,8 +12,7 @@ use crate::guest_edits::GuestEdit;
 use qcow2_check::named_cluster;
 use qcow2_metadata::{Header, L1Table, Table};
 
-// The index of the first L1 entry before an end that an edit has clusters of and that names no table; the
-// end, where there is none.
+// The index of the first L1 entry before `end` that the edit concerns and that names no table, or `end`.
 fn first_missing_of(edit: &GuestEdit, header: &Header, l1_table: &L1Table, end: usize) -> usize
     requires geometry { l1_table.now.geometry ≡ geometry_of header.now }
     requires fits { guest_edit_fits header.now edit.now ≡ true }
@@ -29,8 +28,8 @@ fn first_missing_of(edit: &GuestEdit, header: &Header, l1_table: &L1Table, end: 
     end
 }
 
-/// The index of the first L1 entry that edits but for discards have clusters of and that names no table; the
-/// number of entries, where there is none.
+/// The index of the first L1 entry that an edit other than a discard concerns and that names no table, or the
+/// number of entries.
 pub(crate) fn first_missing(header: &Header, l1_table: &L1Table, edits: &[GuestEdit]) -> usize
     requires geometry { l1_table.now.geometry ≡ geometry_of header.now }
     requires fit { AllFit header.now edits.now }
@@ -46,7 +45,7 @@ pub(crate) fn first_missing(header: &Header, l1_table: &L1Table, edits: &[GuestE
     first
 }
 
-/// Whether an edit but for discards has clusters past those of the last L1 entry.
+/// Whether an edit other than a discard has guest clusters after those of the last L1 entry.
 pub(crate) fn are_more_needed(edits: &[GuestEdit], header: &Header) -> bool
     ensures { let entries = header.now.v2.l1_size in
         result ≡ are_more_needed header.now.v2.cluster_bits edits.now entries }

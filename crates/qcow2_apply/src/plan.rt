@@ -1,4 +1,4 @@
-//! What edits of a disk will do to an image, looked at before anything is written.
+//! The plan of edits, made before anything is written.
 
 ghost use Rattle.std.specs.Prelude.{◌≡◌, ◌⊎◌, ◌<◌, Err, IfErr, IfOk, Ok, ◌/◌, Some};
 ghost use Rattle.qcow2_base.specs.Storage.{OnImage, OnlyReads};
@@ -14,8 +14,8 @@ use qcow2_check::{Counters, load_l1_table, refuse_tables_past_end};
 use qcow2_metadata::{Header, L1Table, RefTable};
 use std::alloc::Global;
 
-// The tables that edits of a disk are planned by: the L1 table, and a reader of counters. Refuses edits that
-// can't be made of any disk of this header, and then an image by the faults of `refuse_tables_past_end`.
+// Reads the tables that a plan needs: the L1 table, and the refcount table with a reader of refcounts.
+// Refuses edits by the faults of `check_edits`, and then an image by those of `refuse_tables_past_end`.
 fn read_tables<'a, S: Device>(
     alloc: Global,
     image: &mut S,
@@ -38,27 +38,27 @@ fn read_tables<'a, S: Device>(
     Ok((l1_table, counters))
 }
 
-/// What edits of a disk will do to an image: the tables that they are made by, what clusters gain and lose,
-/// and what becomes of these. Nothing of it is done yet.
+/// The effect of edits on an image before they are made: the tables that they need, the references that
+/// clusters gain and lose, and the clusters that become free or stay in use.
 #[derive(Drop)]
 pub struct Plan {
     /// The image's L1 table.
     pub l1_table: L1Table,
-    /// Which of the edits are of each L2 table.
+    /// The edits that concern each L2 table.
     pub by_table: EditsByTable,
     /// The image's refcount table.
     pub reftable: RefTable,
-    /// The references that clusters gain, by refcount block.
+    /// The references that clusters gain, by the refcount block that counts them.
     pub gains: Changes,
-    /// Those that they lose.
+    /// The references that clusters lose.
     pub losses: Changes,
-    /// What becomes of clusters: free, kept by others, or in use.
+    /// The clusters that become free, that lose a reference and have others, or that gain one.
     pub clusters: ChangedClusters,
 }
 
 impl Plan {
-    /// Looks at all that edits of a disk need and do, and refuses them where something can't be, by the
-    /// faults that `apply_edits` names. Changes no byte.
+    /// Checks edits and determines their effect. Refuses them by the faults that `apply_edits` names. Changes
+    /// no byte.
     pub fn new<S: Device>(
         alloc: Global,
         image: &mut S,

@@ -1,4 +1,4 @@
-//! What edits do to counters, before anything is written.
+//! The planned changes of refcounts, before anything is written.
 
 ghost use Rattle.std.specs.Prelude.{◌≡◌, ◌⊎◌, ℕ, ◌/◌, ◌<◌, false, true, IfErr, IfOk, IsOkUnless, OnOk};
 ghost use Rattle.std.specs.List.{All};
@@ -22,7 +22,7 @@ use qcow2_edits::Outcome;
 use qcow2_metadata::{ClustersToFreeEntry, Header, RefBlock, Table};
 use std::alloc::Global;
 
-// Whether all of some clusters have counters.
+// Whether refcount blocks count all of these clusters.
 fn are_counted(counters: &Counters<'_>, clusters: ClustersToFreeEntry) -> bool
     ensures counted { result ≡ true → HaveCounters counters.now.header counters.now.reftable clusters }
     ensures uncounted { result ≡ false →
@@ -39,7 +39,7 @@ fn are_counted(counters: &Counters<'_>, clusters: ClustersToFreeEntry) -> bool
     true
 }
 
-// Whether all clusters of a list have counters.
+// Whether refcount blocks count all clusters of a list.
 fn are_all_counted(counters: &Counters<'_>, list: &[ClustersToFreeEntry]) -> bool
     ensures counted { result ≡ true → All (HaveCounters counters.now.header counters.now.reftable) list.now }
     ensures uncounted { result ≡ false →
@@ -53,8 +53,8 @@ fn are_all_counted(counters: &Counters<'_>, list: &[ClustersToFreeEntry]) -> boo
     true
 }
 
-/// What edits of some tables do to counters: what clusters gain, and what they lose. Once one without a
-/// counter loses a reference, no more is kept.
+/// The references that clusters gain and lose by edits of some tables. Once a cluster that no refcount block
+/// counts loses a reference, `are_counted` is false and nothing more is added.
 #[derive(Drop)]
 pub(crate) struct PlannedChanges {
     pub gains: Changes,
@@ -63,7 +63,7 @@ pub(crate) struct PlannedChanges {
 }
 
 impl PlannedChanges {
-    /// No changes, of an image with this header.
+    /// No changes, for an image with this header.
     pub(crate) fn new(alloc: Global, header: &Header) -> PlannedChanges
         ensures sorted { AreSorted (counters_each header.now) result.gains result.losses }
         ensures none { HasNone result.gains × HasNone result.losses }
@@ -76,7 +76,7 @@ impl PlannedChanges {
         }
     }
 
-    /// Adds what edits of a table do.
+    /// Adds the effect of the edits of a table.
     pub(crate) fn add(
         &mut self,
         alloc: Global,
@@ -97,7 +97,7 @@ impl PlannedChanges {
     }
 }
 
-// Refuses changes that the counters of the block at an index of the refcount table can't count.
+// Refuses changes that the refcounts of the block at an index of the refcount table can't follow.
 fn check_block<S: Storage>(
     alloc: Global,
     image: &mut S,
@@ -126,7 +126,7 @@ fn check_block<S: Storage>(
     Ok(())
 }
 
-// Refuses changes that some counter can't count.
+// Refuses changes that some refcount can't follow.
 fn check_counters<S: Storage>(
     alloc: Global,
     image: &mut S,
@@ -150,8 +150,8 @@ fn check_counters<S: Storage>(
 }
 
 impl PlannedChanges {
-    /// What becomes of the clusters that the changes are of. Refuses changes that the counters can't count:
-    /// one can't, or a cluster that loses a reference has none.
+    /// Lists the clusters whose refcounts change. Returns 30 if a refcount can't follow, or if a cluster that
+    /// no refcount block counts loses a reference.
     pub(crate) fn changed_clusters<S: Storage>(
         &self,
         alloc: Global,

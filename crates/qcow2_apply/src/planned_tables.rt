@@ -1,4 +1,4 @@
-//! Edits of the L2 tables of an image, looked at table by table before anything is written.
+//! The planning of edits, table by table, before anything is written.
 
 ghost use Rattle.std.specs.Prelude.{◌≡◌, ℕ, ◌<◌, ◌&&◌, Err, IfOk, IsOkUnless, None, Ok, OnOk, false, length, not, ◌/◌, Some, slice_index, true};
 ghost use Rattle.std.specs.List.{list_any, position};
@@ -30,7 +30,7 @@ use qcow2_check::{Counters, named_cluster};
 use qcow2_metadata::{Header, L1Table, Table};
 use std::alloc::Global;
 
-// What edits of a disk are planned by.
+// The inputs of a plan.
 #[derive(Drop)]
 struct Sources<'a> {
     header: &'a Header,
@@ -40,7 +40,8 @@ struct Sources<'a> {
     mapped: MappedClusters,
 }
 
-// Refuses the edit at a position where it maps a host cluster that isn't free, or that another edit maps.
+// Refuses an edit that maps a host cluster without a refcount block (fault 23), or one whose refcount isn't 0
+// or that another edit maps too (fault 32 with the edit's position).
 fn check_mapping<S: Storage>(
     image: &mut S,
     sources: &Sources<'_>,
@@ -70,7 +71,7 @@ fn check_mapping<S: Storage>(
     Ok(())
 }
 
-// The same of the edit at a position, where it has clusters of the table of the L1 entry at an index.
+// The same for the edit at a position, if it concerns the table of the L1 entry at an index.
 fn check_mapping_in<S: Storage>(
     image: &mut S,
     sources: &Sources<'_>,
@@ -95,8 +96,7 @@ fn check_mapping_in<S: Storage>(
     check_mapping(image, sources, counters, position, edit)
 }
 
-// Refuses the first edit of the table of the L1 entry at an index that maps what it can't, of those at some
-// positions, which are the table's.
+// The same for the edits at all these positions, which are those of the table of the L1 entry at an index.
 fn check_mappings<S: Storage>(
     image: &mut S,
     sources: &Sources<'_>,
@@ -121,7 +121,8 @@ fn check_mappings<S: Storage>(
     Ok(())
 }
 
-// Refuses edits of the table that begins with a cluster, where something else refers to it.
+// Refuses edits of a table that may have other references: its refcount isn't 1, or its L1 entry has no
+// copied flag (fault 40 with the position of its first edit).
 fn check_alone<S: Storage>(
     image: &mut S,
     sources: &Sources<'_>,
@@ -148,9 +149,8 @@ fn check_alone<S: Storage>(
     }
 }
 
-// Adds what edits of the table that begins with a cluster do, which the L1 entry at an index names. Refuses
-// them where something else refers to the table, where it can't be loaded, and where they map what they
-// can't.
+// Adds the effect of the edits of the table that an L1 entry names. Refuses them if the table may have other
+// references, doesn't load, or gets a mapping that `check_mappings` refuses.
 fn plan_named_table<S: Storage>(
     image: &mut S,
     sources: &Sources<'_>,
@@ -194,7 +194,8 @@ fn plan_named_table<S: Storage>(
     planned.add(alloc, counters, &outcome)
 }
 
-// Adds what edits of the table of the L1 entry at an index do. Where there is none, only discards are of it.
+// Adds the effect of the edits of the table of the L1 entry at an index. If the entry names none, only
+// discards concern it, and it adds nothing.
 fn plan_table<S: Storage>(
     image: &mut S,
     sources: &Sources<'_>,
@@ -228,7 +229,7 @@ fn plan_table<S: Storage>(
     plan_named_table(image, sources, counters, planned, index, table, positions)
 }
 
-// Adds what edits of all tables do, and refuses those that need a table which isn't there.
+// Adds the effect of the edits of all tables, and refuses edits that need a missing table (fault 23).
 fn plan_tables<S: Storage>(
     image: &mut S,
     sources: &Sources<'_>,
@@ -264,8 +265,7 @@ fn plan_tables<S: Storage>(
     Ok(())
 }
 
-/// What edits of a disk do, which fit it, by the tables of an image. Refuses them where they can't be made of
-/// a table.
+/// Plans edits that fit the disk, by the tables of an image. Refuses them if a table can't have them.
 pub(crate) fn plan_by_tables<S: Storage>(
     image: &mut S,
     header: &Header,

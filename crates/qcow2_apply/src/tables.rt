@@ -1,4 +1,4 @@
-//! L2 tables of an image that edits of its disk change.
+//! The edits of L2 tables in an image.
 
 ghost use Rattle.std.specs.Prelude.{◌≡◌, ◌⊎◌, ◌<◌, ◌^◌, Err, IfErr, IfOk, MatchResult, Ok, OnOk, length};
 ghost use Rattle.qcow2_base.specs.declared.fault.Fault.TheVariants.{Storage};
@@ -23,7 +23,7 @@ use qcow2_edits::{Edit, Outcome, edit_table};
 use qcow2_metadata::{Header, L1Table, L2Table, Table};
 use std::alloc::Global;
 
-// Loads the L2 table that begins with a cluster, and makes edits of it, which fit. The table isn't written.
+// Loads the L2 table at a cluster, and makes edits that fit it. Doesn't write the table.
 fn load_edited<S: Storage>(
     alloc: Global,
     image: &mut S,
@@ -47,8 +47,8 @@ fn load_edited<S: Storage>(
     Ok((table, outcome))
 }
 
-/// What the edits of the disk at some positions do to references, which are those of the L2 table of the L1
-/// entry at an index. It begins with a cluster, and isn't written.
+/// The references that the L2 table at a cluster gains and loses by the edits at some positions. `index` is
+/// that of its L1 entry. Doesn't write the table.
 pub(crate) fn load_outcome<S: Storage>(
     alloc: Global,
     image: &mut S,
@@ -74,8 +74,7 @@ pub(crate) fn load_outcome<S: Storage>(
     Ok(outcome)
 }
 
-// Makes the edits of the disk at some positions, which are those of the L2 table of the L1 entry at an index.
-// It is in memory.
+// Makes the edits at some positions in a table in memory. `index` is that of its L1 entry.
 fn make_edits(
     table: &mut L2Table,
     header: &Header,
@@ -94,8 +93,8 @@ fn make_edits(
     }
 }
 
-// Makes the edits of the disk at some positions in the L2 table that begins with a cluster, which the L1
-// entry at an index names. It is read over another table.
+// Reads the L2 table at a cluster into `table`, makes the edits at some positions, and writes it if it has
+// changed. `index` is that of its L1 entry.
 fn edit_named<S: Storage>(
     image: &mut S,
     header: &Header,
@@ -122,8 +121,8 @@ fn edit_named<S: Storage>(
     table.write_if_modified(image, cluster)
 }
 
-// Makes edits of the disk in the L2 table of the L1 entry at an index. Where there is no table, nothing is
-// done.
+// The same for the L2 table of the L1 entry at an index. Does nothing if the entry names no table, or no edit
+// concerns it.
 fn edit_at<S: Storage>(
     image: &mut S,
     header: &Header,
@@ -157,13 +156,13 @@ fn edit_at<S: Storage>(
     edit_named(image, header, table, cluster, index, edits, positions)
 }
 
-/// Makes edits of the disk in all L2 tables of an image, and waits until they are on the device. Each table
-/// is read over the given one, which is one of the image still, and written once at most, so no memory is
-/// taken. Guest clusters without a table are passed over.
+/// Makes edits in all L2 tables of an image, and syncs them to the device. Reads each table into `table`,
+/// which stays a table of the image, and writes it at most once, so it takes no memory. Skips guest clusters
+/// without a table.
 ///
-/// Returns the fault of the first table that can't be loaded. After a fault those before it may be edited, so
-/// the call must not be made again; where the storage failed, any bytes may be in one more. Takes time by
-/// the number of L1 entries, of tables that are read, and of clusters that are edited.
+/// Returns the fault of the first table that doesn't load. After a fault the tables before it may be edited,
+/// so the call must not be repeated. If the storage failed, any bytes may also be in one more. Takes time in
+/// proportion to the number of L1 entries, of tables read, and of clusters edited.
 pub fn edit_tables<S: Device>(
     image: &mut S,
     header: &Header,

@@ -1,4 +1,4 @@
-//! How changes of counters are added, and found by their block.
+//! Adding and looking up changes of refcounts, by refcount block.
 
 ghost use Rattle.std.specs.Prelude.{◌≡◌, ℕ, ◌+◌, ◌*◌, ◌/◌, ◌^◌, ◌<◌, ◌≤◌, ◌==◌, IfOk, IfSome, IsOkUnless, MatchOption, OnOk, length, slice_index, take};
 ghost use Rattle.std.specs.List.{sum_by};
@@ -18,7 +18,7 @@ use qcow2_metadata::{ClustersToFreeEntry, Header};
 use std::alloc::{AllocError, Global};
 use std::collections::BTreeMap;
 
-/// Appends clusters that lost a reference to others: to the last of these, where they follow them.
+/// Appends clusters that lost a reference to a list. They extend its last range if they follow it.
 pub(crate) fn push_clusters(
     list: &mut Vec<ClustersToFreeEntry>,
     clusters: ClustersToFreeEntry,
@@ -40,7 +40,7 @@ pub(crate) fn push_clusters(
     Ok(())
 }
 
-// Clusters that lost a reference, in fewer ranges: what follows the range before is one with it.
+// The same clusters in fewer ranges: a range that follows the one before it joins it.
 fn joined_ranges(
     alloc: Global,
     list: &[ClustersToFreeEntry],
@@ -55,7 +55,7 @@ fn joined_ranges(
     Ok(joined)
 }
 
-/// The same outcome with the clusters that lost a reference in fewer ranges.
+/// The same outcome with the freed clusters in fewer ranges.
 pub(crate) fn joined(alloc: Global, outcome: Outcome) -> Result<Outcome, Fault>
     ensures gained { IfOk result (λ joined. joined.gained.items ≡ outcome.gained.items) }
     ensures freed { IfOk result (λ joined.
@@ -69,7 +69,7 @@ pub(crate) fn joined(alloc: Global, outcome: Outcome) -> Result<Outcome, Fault>
     })
 }
 
-// Appends a cluster that gained a reference to others.
+// Appends a cluster that gained a reference to a list.
 fn push_gained(list: &mut Vec<HostCluster>, cluster: HostCluster) -> Result<(), Fault>
     ensures pushed { OnOk result ((c : ℕ) → times_gained (cluster_numbers list.new.items) c
         ≡ times_gained (cluster_numbers list.old.items) c + one_if (cluster.0 == c)) }
@@ -84,7 +84,7 @@ impl Changes {
     ghost use Rattle.qcow2_base.specs.declared.fault.Fault.TheVariants.{CounterRange, NoMemory};
     ghost use Rattle.qcow2_check.specs.Counters.{counters_each};
 
-    /// No changes, of an image with this header.
+    /// No changes, for an image with this header.
     pub fn new(alloc: Global, header: &Header) -> Changes
         ensures bits { 2 ^ result.rb_bits ≡ counters_each header.now }
         ensures none { HasNone result }
@@ -95,7 +95,7 @@ impl Changes {
         }
     }
 
-    /// The outcome of the block at an index of the refcount table, if it has one.
+    /// The changes of the block at an index of the refcount table, if it has any.
     pub fn outcome_of(&self, index: usize) -> Option<&Outcome>
         ensures { MatchOption result (IsOutcomeOf self.now index None)
             (λ outcome. IsOutcomeOf self.now index (Some outcome.now)) }
@@ -103,7 +103,7 @@ impl Changes {
         self.blocks.get(&index)
     }
 
-    // The outcome of the block at an index, which is taken out; that of no edits, where there is none.
+    // Removes and returns the changes of the block at an index. Without any, returns an empty outcome.
     fn take_outcome(&mut self, alloc: Global, index: usize) -> Outcome
         ensures taken { TakesOutcome index result self.old self.new }
     {
@@ -116,7 +116,7 @@ impl Changes {
         }
     }
 
-    // Puts an outcome in for a block that has none.
+    // Inserts the changes of a block that has none.
     fn put_outcome(&mut self, index: usize, outcome: Outcome) -> Result<(), Fault>
         ensures put { OnOk result (PutsOutcome index outcome self.old self.new) }
         ensures fault { IsOkUnless result NoMemory }
@@ -125,7 +125,7 @@ impl Changes {
         Ok(())
     }
 
-    // Counts a reference that a cluster gained. After a fault the changes of its block are lost.
+    // Adds a reference that a cluster gained. A fault loses the changes of its block.
     fn add_gained(&mut self, alloc: Global, cluster: HostCluster) -> Result<(), Fault>
         ensures added { OnOk result
             (AddsChanges (λ c. one_if (cluster.0 == c)) (λ c. 0) self.old self.new) }
@@ -137,9 +137,8 @@ impl Changes {
         self.put_outcome(index, outcome)
     }
 
-    // Counts references that clusters lost, from one to before another, as far as the first one's block
-    // counts them. Returns the cluster after the last that was counted. After a fault the changes of the
-    // block are lost.
+    // Adds a lost reference for each cluster from `first` to before `end`, up to the end of the first
+    // cluster's block. Returns the cluster after the last one added. A fault loses the changes of the block.
     fn add_part(&mut self, alloc: Global, first: u64, end: u64) -> Result<u64, Fault>
         requires { first < end }
         ensures further { IfOk result (λ next. (first < next) × (next ≤ end)) }
@@ -161,14 +160,14 @@ impl Changes {
         Ok(first + count)
     }
 
-    // Counts a reference that each of some clusters lost.
+    // Adds a lost reference for each of these clusters.
     fn add_lost(&mut self, alloc: Global, clusters: ClustersToFreeEntry) -> Result<(), Fault>
         ensures added { OnOk result
             (AddsChanges (λ c. 0) (λ c. one_if (is_among clusters c)) self.old self.new) }
         ensures fault { IfErr result (λ fault. (fault ≡ NoMemory)
             ⊎ ((fault ≡ CounterRange) × EndsLate clusters)) }
     {
-        // No refcount table counts a cluster so far on.
+        // No refcount table counts such a cluster.
         let Some(end) = clusters.first.0.checked_add(clusters.count.0) else {
             return Err(Fault::CounterRange);
         };
@@ -179,7 +178,8 @@ impl Changes {
         Ok(())
     }
 
-    /// Counts what clusters gained. Fails where memory runs out. After a fault the changes are incomplete.
+    /// Adds a gained reference for each of these clusters. Fails if memory runs out. After a fault the
+    /// changes are incomplete.
     pub fn add_all_gained(&mut self, alloc: Global, clusters: &[HostCluster]) -> Result<(), Fault>
         ensures added { OnOk result
             (AddsChanges (times_gained (cluster_numbers clusters.now)) (λ c. 0) self.old self.new) }
@@ -191,8 +191,9 @@ impl Changes {
         Ok(())
     }
 
-    /// Counts what clusters lost. Fails where memory runs out, and with fault 30 for lost clusters that end
-    /// past 2^64, which no refcount table counts. After a fault the changes are incomplete.
+    /// Adds a lost reference for each cluster of these ranges. Fails if memory runs out, and with fault 30
+    /// for a range that ends past 2^64, since no refcount table counts it. After a fault the changes are
+    /// incomplete.
     pub fn add_all_lost(&mut self, alloc: Global, list: &[ClustersToFreeEntry]) -> Result<(), Fault>
         ensures added { OnOk result (AddsChanges (λ c. 0) (handed_back list.now) self.old self.new) }
         ensures fault { IfErr result (λ fault. (fault ≡ NoMemory)
