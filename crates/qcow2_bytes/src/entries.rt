@@ -1,4 +1,4 @@
-//! What numbers in L1 and L2 tables say, by the fields of a header.
+//! The meaning of L1 and L2 entries, by the fields of a header.
 
 ghost use Rattle.std.specs.Prelude.{◌≡◌, ◌↔◌, ℕ, ◌+◌, ◌*◌, ◌%◌, ◌^◌, ◌≤◌, IsTrue, IsOkAnd, MatchResult, None, Err, length};
 ghost use Rattle.qcow2_base.specs.Types.{IsClusterBits};
@@ -11,12 +11,13 @@ ghost use Rattle.qcow2_bytes.specs.Entries.{IsFirstBad, l1_entry_in, l2_entry_in
 use crate::HeaderFields;
 use qcow2_base::{Fault, HostOffset, MAX_FILE_LENGTH, field, read_be};
 
-/// Where an L2 table lies, by an L1 entry.
+/// The L2 table that an L1 entry names.
 #[derive(Clone, Copy, Debug, PartialEq, Eq)]
 pub struct L2Pointer {
-    /// Where the L2 table begins, in bytes of the image. 0 where there is none.
+    /// The offset of the L2 table in the image, in bytes. 0 if the entry names none.
     pub offset: u64,
-    /// Whether the entry says that the refcount of the table's cluster is exactly one.
+    /// Whether the entry's copied flag is set, which says that the refcount of the table's cluster is exactly
+    /// one.
     pub copied: bool,
 }
 
@@ -24,25 +25,27 @@ pub struct L2Pointer {
 #[repr(C)]
 #[derive(Clone, Copy, Debug, PartialEq, Eq)]
 pub struct EntryMapping {
-    /// 0: data of the backing file. 1: data. 2: zeros. 3: zeros that keep a cluster. 4: compressed data.
+    /// 0: data of the backing file. 1: data. 2: zeros without a cluster. 3: zeros with a cluster. 4:
+    /// compressed data.
     pub kind: u32,
-    /// 1 where the entry says that the refcount of the cluster is exactly one; else 0.
+    /// 1 if the entry's copied flag is set, which says that the refcount of its cluster is exactly one; else
+    /// 0.
     pub copied: u32,
-    /// Where the data, or the cluster that is kept, begins. For kind 0 in the backing file, for 4 in the
-    /// image, else in the data file. 0 for kind 2.
+    /// The offset of the data or of the zeros' cluster: for kind 0 in the backing file, for kind 4 in the
+    /// image, for kinds 1 and 3 in the external data file, or in the image if it has none. 0 for kind 2.
     pub offset: u64,
-    /// How many bytes lie there: a cluster; for kind 4 at most how many the data takes; 0 for kind 2.
+    /// The number of bytes there: the cluster size; for kind 4 the most that the data can take; 0 for kind 2.
     pub length: u64,
 }
 
-/// A number in a table that is no entry: its place in the table, and why.
+/// An invalid entry of a table: its index, and its fault.
 #[derive(Clone, Copy, Debug, PartialEq, Eq)]
 pub struct BadEntry {
     pub index: usize,
     pub fault: Fault,
 }
 
-/// What a number in an L1 table says.
+/// Decodes an L1 entry.
 ///
 /// Refuses fields that no header has (3, 17), and what `L1Entry::try_from_plain` refuses (18, 19). Takes no
 /// memory.
@@ -64,7 +67,7 @@ pub fn l1_entry(entry: u64, fields: &HeaderFields) -> Result<L2Pointer, Fault>
     })
 }
 
-/// What the cluster of a guest offset reads as, by its number in an L2 table.
+/// Decodes the L2 entry of a guest offset's cluster.
 ///
 /// Refuses fields that no header has (3, 17), and what `L2Entry::try_from_plain` refuses (18, 19). Takes no
 /// memory.
@@ -80,7 +83,7 @@ pub fn l2_entry(entry: u64, fields: &HeaderFields, guest_offset: u64) -> Result<
     Ok(mapping_of(entry, cluster_bits, external, guest_begin))
 }
 
-// What a guest cluster that begins at an offset reads as, by its number in an L2 table, which is an entry.
+// The mapping of the guest cluster at offset `guest_begin`, by its L2 entry, which must be valid.
 #[inline]
 pub(crate) fn mapping_of(
     entry: u64,
@@ -100,7 +103,7 @@ pub(crate) fn mapping_of(
     standard_mapping(entry, cluster_bits, external, guest_begin)
 }
 
-// Why a number is no L2 entry, if it is none.
+// The fault of an L2 entry, if it is invalid.
 #[inline]
 fn l2_fault_of(entry: u64, cluster_bits: u32) -> Option<Fault>
     requires { IsClusterBits cluster_bits }
@@ -118,7 +121,7 @@ fn l2_fault_of(entry: u64, cluster_bits: u32) -> Option<Fault>
     (offset.in_cluster_offset(cluster_bits) != 0).then_some(Fault::EntryUnaligned)
 }
 
-// What a compressed entry says.
+// The mapping of a compressed entry.
 #[inline]
 fn compressed_mapping(entry: u64, cluster_bits: u32) -> EntryMapping
     requires { IsClusterBits cluster_bits }
@@ -136,7 +139,7 @@ fn compressed_mapping(entry: u64, cluster_bits: u32) -> EntryMapping
     }
 }
 
-// What a standard entry says of a guest cluster that begins at an offset.
+// The mapping of a standard entry. The guest cluster begins at offset `guest_begin`.
 #[inline]
 fn standard_mapping(entry: u64, cluster_bits: u32, external: bool, guest_begin: u64) -> EntryMapping
     requires bits { IsClusterBits cluster_bits }
@@ -163,10 +166,10 @@ fn standard_mapping(entry: u64, cluster_bits: u32, external: bool, guest_begin: 
     }
 }
 
-/// The first number in the bytes of an L2 table, or of a part of one, that is no entry, if there is one.
+/// Returns the first invalid entry in the bytes of an L2 table, or of a part of one, if there is one.
 ///
-/// Refuses fields that no header has (3, 17), and bytes that aren't whole entries of eight bytes (31).
-/// Takes no memory.
+/// Refuses fields that no header has (3, 17), and bytes that aren't whole entries of eight bytes (31). Takes
+/// no memory.
 pub fn first_bad_l2_entry(bytes: &[u8], fields: &HeaderFields) -> Result<Option<BadEntry>, Fault>
     ensures { MatchResult result (λ found. IsOkAnd (table_geometry fields.now bytes.now) (λ g.
         IsFirstBad g.cluster_bits bytes.now found))
@@ -179,7 +182,7 @@ pub fn first_bad_l2_entry(bytes: &[u8], fields: &HeaderFields) -> Result<Option<
     Ok(first_bad(bytes, cluster_bits))
 }
 
-// The number of eight bytes at an index.
+// The entry at an index, as a number.
 #[inline]
 pub(crate) fn number_at(bytes: &[u8], index: usize) -> u64
     requires { 8 * index + 8 ≤ length bytes.now }
@@ -188,7 +191,7 @@ pub(crate) fn number_at(bytes: &[u8], index: usize) -> u64
     read_be(bytes, 8 * index)
 }
 
-// The first number in the bytes that is no L2 entry.
+// The first invalid L2 entry in the bytes.
 pub(crate) fn first_bad(bytes: &[u8], cluster_bits: u32) -> Option<BadEntry>
     requires bits { IsClusterBits cluster_bits }
     requires whole { length bytes.now % 8 ≡ 0 }
@@ -205,7 +208,7 @@ pub(crate) fn first_bad(bytes: &[u8], cluster_bits: u32) -> Option<BadEntry>
     None
 }
 
-// Whether all numbers in the bytes are L2 entries. Looks at each, so that a compiler tests several at once.
+// Whether all L2 entries in the bytes are valid. Tests each, so that the compiler can test several at once.
 fn are_entries(bytes: &[u8], cluster_bits: u32) -> bool
     requires bits { IsClusterBits cluster_bits }
     requires whole { length bytes.now % 8 ≡ 0 }
@@ -218,8 +221,8 @@ fn are_entries(bytes: &[u8], cluster_bits: u32) -> bool
     all
 }
 
-// Whether a number is an L2 entry: one that is compressed and has neither bit 63 nor bits of its offset from
-// 56 on, or a standard one that has no bits but 0 and 63 and those of its cluster's offset.
+// Whether an L2 entry is valid: a compressed one with neither bit 63 nor bits of its offset from 56 on, or a
+// standard one with no bits except 0, 63 and those of its cluster's offset.
 #[inline]
 fn is_entry(entry: u64, cluster_bits: u32) -> bool
     requires { IsClusterBits cluster_bits }

@@ -1,4 +1,4 @@
-//! What the first cluster of an image says.
+//! The header in the first cluster of an image.
 
 ghost use Rattle.std.specs.Prelude.{◌≡◌, ◌≢◌, ◌⊎◌, ◌^◌, ◌≤◌, IfErr, IfOk, Ok, OnOk, length};
 ghost use Rattle.qcow2_base.specs.Storage.{image_of};
@@ -19,20 +19,20 @@ mod names;
 
 use names::{backing_name, extension_name};
 
-/// How many bytes the fixed parts of a header have.
+/// The number of bytes in the fixed parts of a header.
 const FIXED_BYTES: usize = 104;
 
-/// Where a name lies in the bytes of a first cluster. Both numbers are 0 where there is none.
+/// The place of a name in the bytes of a first cluster. Both numbers are 0 if there is no name.
 #[repr(C)]
 #[derive(Clone, Copy, Debug, PartialEq, Eq)]
 pub struct NameRange {
-    /// Where the name begins, in bytes.
+    /// The offset of the name in bytes.
     pub offset: u32,
-    /// How many bytes it has.
+    /// The length of the name in bytes.
     pub length: u32,
 }
 
-/// What a header says, in plain numbers.
+/// The fields of a header, in plain numbers.
 #[repr(C)]
 #[derive(Clone, Copy, Debug, PartialEq, Eq)]
 pub struct HeaderFields {
@@ -46,23 +46,23 @@ pub struct HeaderFields {
     pub crypt_method: u32,
     /// The size of the guest's disk, in bytes.
     pub size: u64,
-    /// Where the L1 table begins.
+    /// The offset of the L1 table.
     pub l1_offset: u64,
-    /// Where the refcount table begins.
+    /// The offset of the refcount table.
     pub reftable_offset: u64,
-    /// How many entries the L1 table has.
+    /// The number of entries in the L1 table.
     pub l1_entries: u32,
-    /// How many clusters the refcount table takes.
+    /// The number of clusters in the refcount table.
     pub reftable_clusters: u32,
     /// Bit 2 says that guest data lies in an external data file.
     pub incompatible_features: u64,
-    /// Features that may be left aside.
+    /// Features that a program may ignore.
     pub compatible_features: u64,
-    /// Features to be cleared by who writes to the image without knowing them.
+    /// Features that a program clears if it writes to the image and doesn't know them.
     pub autoclear_features: u64,
-    /// Where the table of snapshots begins.
+    /// The offset of the snapshot table.
     pub snapshots_offset: u64,
-    /// How many snapshots the image has.
+    /// The number of snapshots.
     pub snapshots: u32,
     /// The backing file's name.
     pub backing_name: NameRange,
@@ -72,10 +72,11 @@ pub struct HeaderFields {
     pub data_file: NameRange,
 }
 
-/// How many bytes the first cluster of an image has, by its first 104 bytes: as many as `read_header` needs.
+/// Returns the size of an image's first cluster in bytes, from its first 104 bytes. `read_header` needs that
+/// many.
 ///
-/// Refuses fewer bytes (31), what is no qcow2 image (1), other versions than 2 and 3 (2), and cluster sizes
-/// that no image has (3). Takes no memory.
+/// Refuses fewer bytes (31), an image that isn't qcow2 (1), other versions than 2 and 3 (2), and cluster
+/// sizes that no image has (3). Takes no memory.
 #[tactic(auto, using(crate::proofs::HeaderLemmas::cluster_sizes))]
 pub fn header_bytes(first_bytes: &[u8]) -> Result<usize, Fault>
     ensures value { result ≡ first_cluster_size first_bytes.now }
@@ -90,7 +91,8 @@ pub fn header_bytes(first_bytes: &[u8]) -> Result<usize, Fault>
     Ok(1 << v2.cluster_bits)
 }
 
-// Refuses an image that isn't qcow2, and cluster sizes that no image has.
+// Refuses an image that isn't qcow2 (1), other versions than 2 and 3 (2), and cluster sizes that no image has
+// (3).
 fn check_version(v2: &V2Header) -> Result<(), Fault>
     ensures exact { result ≡ after_conditions (version_conditions v2.now) (λ _. Ok tt) }
     ensures cluster_bits { OnOk result (IsClusterBits v2.now.cluster_bits) }
@@ -108,11 +110,11 @@ fn check_version(v2: &V2Header) -> Result<(), Fault>
     Ok(())
 }
 
-/// What the header of an image says, by the bytes of its first cluster; more bytes may follow. Accepts what
-/// `Header::load` accepts of an image that begins with them.
+/// Decodes the header of an image from the bytes of its first cluster. More bytes may follow. Accepts exactly
+/// what `Header::load` accepts in an image that begins with these bytes.
 ///
 /// Refuses what `header_bytes` refuses, then fewer bytes than the cluster has (31), then a header by the
-/// fault of the first condition of the format that it fails: 1 to 17.
+/// first condition of the format that it breaks (1 to 17).
 pub fn read_header(alloc: Global, bytes: &[u8]) -> Result<HeaderFields, Fault>
     ensures read { ReadsHeader bytes.now result }
     ensures faults { IfErr result (λ fault.
@@ -126,7 +128,7 @@ pub fn read_header(alloc: Global, bytes: &[u8]) -> Result<HeaderFields, Fault>
     Ok(fields_of(bytes, size))
 }
 
-// The header of an image that has these bytes.
+// Loads the header of an image that has these bytes.
 fn load_header(alloc: Global, bytes: &[u8]) -> Result<Header, Fault>
     ensures exact { Computes (λ header. header) result (header_of (image_of bytes.now)) }
     ensures faults { IfErr result (λ fault. (fault ≡ NoMemory) ⊎ IsHeaderFault fault) }
@@ -138,7 +140,7 @@ fn load_header(alloc: Global, bytes: &[u8]) -> Result<Header, Fault>
     }
 }
 
-// No read of a slice fails, but the clauses of calls over any storage don't say so: 34 becomes 35.
+// Turns fault 34 into 35. No read of a slice fails, but the contracts of calls over any storage don't say so.
 pub(crate) fn without_storage_fault(fault: Fault) -> Fault
     ensures { (result ≡ NoMemory) ⊎ ((result ≡ fault) × (fault ≢ StorageFailed)) }
 {
@@ -148,7 +150,7 @@ pub(crate) fn without_storage_fault(fault: Fault) -> Fault
     }
 }
 
-// The fields of the header that the bytes begin with.
+// The fields of the header at the start of the bytes.
 fn fields_of(bytes: &[u8], cluster_size: usize) -> HeaderFields
     requires whole { cluster_size ≤ length bytes.now }
     requires size { (512 ≤ cluster_size) × (cluster_size ≤ 2 ^ 21) }
@@ -190,7 +192,7 @@ fn fields_of(bytes: &[u8], cluster_size: usize) -> HeaderFields
     }
 }
 
-// The second part of a header of this version that the bytes begin with.
+// The second part of the header at the start of the bytes: the defaults in version 2.
 fn read_base(bytes: &[u8], version: u32) -> V3HeaderBase
     requires { 104 ≤ length bytes.now }
     ensures { IsBase (image_of bytes.now) version result }
@@ -205,8 +207,8 @@ fn read_base(bytes: &[u8], version: u32) -> V3HeaderBase
 impl HeaderFields {
     ghost use Rattle.qcow2_bytes.specs.Header.{geometry_in};
 
-    // What the meaning of entries depends on: the cluster bits, and whether guest data lies in an external
-    // data file. Refuses fields that no header has.
+    // Returns what the meaning of entries depends on: the cluster bits, and whether guest data lies in an
+    // external data file. Refuses fields that no header has (3, 17).
     #[inline]
     pub(crate) fn geometry(&self) -> Result<(u32, bool), Fault>
         ensures value { result_map (λ pair. geometry pair.0 pair.1) result ≡ geometry_in self.now }

@@ -1,4 +1,4 @@
-//! What a whole image in memory says.
+//! Calls over the bytes of a whole image in memory.
 
 ghost use Rattle.std.specs.Prelude.{◌≡◌, ◌⊎◌, IfErr};
 ghost use Rattle.qcow2_base.specs.Storage.{image_of};
@@ -22,11 +22,11 @@ mod extents;
 pub use check::{CheckTotals, FindingFields, image_check};
 pub use extents::{CutShort, ExtentFields, image_extents};
 
-/// What the cluster of a guest offset reads as, by the bytes of a whole image. After its last byte an image
-/// has zeros. The size of the guest's disk isn't looked at.
+/// Returns the mapping of a guest offset's cluster, by the bytes of a whole image. Past its last byte the
+/// image reads as zeros. Ignores the size of the guest's disk.
 ///
 /// Reads the header, the L1 table and at most one L2 table, and returns the fault of the first of them that
-/// is refused: one of 1 to 21.
+/// is refused (one of 1 to 21).
 pub fn image_lookup(alloc: Global, bytes: &[u8], guest_offset: u64) -> Result<EntryMapping, Fault>
     ensures exact { Computes (λ mapping. mapping) result (fields_at guest_offset (image_of bytes.now)) }
     ensures faults { IfErr result (λ fault. (fault ≡ NoMemory) ⊎ IsImageFault fault) }
@@ -38,7 +38,7 @@ pub fn image_lookup(alloc: Global, bytes: &[u8], guest_offset: u64) -> Result<En
     }
 }
 
-// What the cluster of a guest offset reads as, in plain numbers.
+// The mapping of a guest offset's cluster, in plain numbers.
 fn lookup_fields<S: Storage>(
     alloc: Global,
     image: &mut S,
@@ -51,7 +51,7 @@ fn lookup_fields<S: Storage>(
     fields_with_header(alloc, image, &header, guest_offset)
 }
 
-// The same in an image with this header.
+// The same for an image with this header.
 fn fields_with_header<S: Storage>(
     alloc: Global,
     image: &mut S,

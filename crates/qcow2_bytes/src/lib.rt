@@ -1,5 +1,5 @@
-//! What bytes of an image mean, for callers that read an image by their own means: calls over bytes that the
-//! caller has, with no storage.
+//! The meaning of an image's bytes: calls without a storage, for programs that read an image by their own
+//! means.
 #![tactic(auto)]
 
 mod entries;

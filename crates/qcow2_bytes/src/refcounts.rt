@@ -1,4 +1,4 @@
-//! What the bytes of a refcount block say.
+//! The refcounts in the bytes of a refcount block.
 
 ghost use Rattle.std.specs.Prelude.{◌≡◌, ◌+◌, ◌*◌, ◌^◌, ◌<◌, ◌≤◌, IfErr, IfOk, IfSome, length, map};
 ghost use Rattle.std.specs.List.{range_with_len};
@@ -15,12 +15,12 @@ mod settled;
 use qcow2_base::{Fault, field, read_be};
 pub use settled::{HostClusters, settle_refcounts};
 
-/// The counters of a refcount block from an index on, by the block's bytes. As many are read as there are
-/// places for them. A refcount has `2^refcount_order` bits.
+/// Reads refcounts from the bytes of a refcount block into all of `counters`, from index `first` on. A
+/// refcount has `2^refcount_order` bits.
 ///
-/// Refuses orders past 6 (8), then bytes that aren't as many as a cluster has (31): a power of two from 512
-/// to 2^21. Then refuses counters past the block's end, by how many it has from the index on (33). After a
-/// fault all places are as they were. Takes no memory.
+/// Refuses orders past 6 (8), then bytes whose number isn't a cluster size, a power of two from 512 to 2^21
+/// (31). Then refuses refcounts past the block's end (33, with the number of refcounts from `first` on).
+/// After a fault `counters` is unchanged. Takes no memory.
 pub fn read_refcounts(
     bytes: &[u8],
     refcount_order: u32,
@@ -41,7 +41,8 @@ pub fn read_refcounts(
     Ok(())
 }
 
-// The cluster bits of the block that has these bytes.
+// The cluster bits of a refcount block with these bytes. Refuses orders past 6 (8), and a number of bytes
+// that isn't a cluster size (31).
 fn block_bits(bytes: &[u8], refcount_order: u32) -> Result<u32, Fault>
     ensures exact { result ≡ block_bits_in (length bytes.now) refcount_order }
     ensures order { IfOk result (λ bits. refcount_order ≤ 6) }
@@ -54,7 +55,7 @@ fn block_bits(bytes: &[u8], refcount_order: u32) -> Result<u32, Fault>
     bits_of_size(bytes.len()).ok_or(Fault::WrongLength)
 }
 
-// The cluster bits by which a cluster has that size.
+// The cluster bits of a cluster size.
 fn bits_of_size(size: usize) -> Option<u32>
     ensures exact { result ≡ spec.bits_of_size size }
     ensures bits { IfSome result IsClusterBits }
@@ -68,7 +69,7 @@ fn bits_of_size(size: usize) -> Option<u32>
     None
 }
 
-// How many counters a block has.
+// The number of refcounts in a block.
 #[inline]
 #[tactic(auto, using(crate::proofs::RefcountsLemmas::few_entries))]
 fn entries_of(cluster_bits: u32, refcount_order: u32) -> usize
@@ -80,7 +81,7 @@ fn entries_of(cluster_bits: u32, refcount_order: u32) -> usize
     1 << (cluster_bits + 3 - refcount_order)
 }
 
-// Puts the counters of the block from an index on, of which these are the bytes, in their places.
+// Reads refcounts of the block from index `first` on into all of `counters`.
 fn fill_counters(bytes: &[u8], order: u32, first: usize, counters: &mut [u64])
     requires order { order ≤ 6 }
     requires end { first + length counters.old < 2 ^ 64 }
@@ -93,7 +94,7 @@ fn fill_counters(bytes: &[u8], order: u32, first: usize, counters: &mut [u64])
     }
 }
 
-// The counter at an index of the block that has these bytes.
+// The refcount at an index.
 #[inline]
 fn counter(bytes: &[u8], order: u32, index: usize) -> u64
     requires order { order ≤ 6 }
@@ -108,7 +109,7 @@ fn counter(bytes: &[u8], order: u32, index: usize) -> u64
     }
 }
 
-// The same for counters that are no wider than a byte.
+// The refcount at an index, if refcounts have at most eight bits.
 #[inline]
 fn narrow_counter(bytes: &[u8], order: u32, index: usize) -> u64
     requires order { order ≤ 3 }

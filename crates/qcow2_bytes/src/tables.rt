@@ -1,4 +1,4 @@
-//! What bytes of an L2 table read as, joined to extents.
+//! The extents in the bytes of an L2 table.
 
 ghost use Rattle.std.specs.Prelude.{◌≡◌, ℕ, true, None, ◌+◌, ◌*◌, ◌/◌, ◌%◌, ◌^◌, ◌<◌, ◌≤◌, ◌↔◌, IsTrue, length};
 ghost use Rattle.qcow2_base.specs.Format.{most_l2_entries};
@@ -17,24 +17,24 @@ mod edit;
 
 pub use edit::{EditCounts, EditFields, EditRefusal, edit_l2_table};
 
-// How many entries are tested one after another, before blocks of them are.
+// The number of entries that are tested one by one, before they are tested in blocks.
 const FEW: usize = 16;
 
-// How many entries are tested together.
+// The number of entries in a block.
 const BLOCK: usize = 64;
 
-/// Joins the entries in the bytes of an L2 table, or of a part of one, to extents, and returns how many there
-/// are: all, or as many as there is room for. The first entry is for the guest cluster with this offset.
+/// Joins the entries in the bytes of an L2 table, or of a part of one, into extents, and returns their
+/// number: all, or as many as fit. The first entry is that of the guest cluster at `first_guest_offset`.
 ///
-/// An extent is as long as its clusters read as one: data, and zeros that keep clusters, in one host cluster
-/// after another, and other content of one kind. The copied flag makes no difference, but where it alone says
-/// that an entry has a cluster. As many extents as entries are always room enough. To go on, pass the bytes
-/// after those of `length >> cluster_bits` entries of each extent.
+/// An extent is as long as possible. Its clusters all have the same kind of content, and data and zeros with
+/// clusters lie in consecutive host clusters. The copied flag makes no difference, unless it alone says that
+/// an entry has a cluster. A list as long as the number of entries is always long enough. To go on, pass the
+/// bytes after the entries of all extents, `length >> cluster_bits` for each.
 ///
-/// Refuses fields that no header has (3, 17). Then refuses bytes that aren't whole entries of eight bytes
-/// or are more than a cluster, an offset that isn't a cluster's, and one by which a guest cluster ends at
-/// 2^64 or past it (31). Then refuses the first number of all the bytes that is no entry (18, 19). Takes no
-/// memory, and after a refusal no extent has changed.
+/// Refuses fields that no header has (3, 17). Then refuses bytes that aren't whole entries of eight bytes or
+/// exceed a cluster, an offset that isn't a multiple of the cluster size, and one for which a guest cluster
+/// would end at or past 2^64 (31). Then refuses the first invalid entry in all the bytes (18, 19). Takes no
+/// memory. After a refusal no extent has changed.
 pub fn l2_extents(
     bytes: &[u8],
     fields: &HeaderFields,
@@ -53,7 +53,8 @@ pub fn l2_extents(
     Ok(join(bytes, cluster_bits, external, first_guest_offset, extents))
 }
 
-// Whether the bytes are entries of one table, whose guest clusters begin with one that has this offset.
+// Whether the bytes are whole entries of at most one table, the first is that of a cluster at this offset,
+// and all their clusters end below 2^64.
 fn are_in_table(bytes: &[u8], cluster_bits: u32, first_guest_offset: u64) -> bool
     requires { IsClusterBits cluster_bits }
     ensures { result ≡ are_in_table cluster_bits bytes.now first_guest_offset }
@@ -68,7 +69,7 @@ fn are_in_table(bytes: &[u8], cluster_bits: u32, first_guest_offset: u64) -> boo
         .is_some()
 }
 
-// Joins the entries in the bytes, which are all valid.
+// Joins the entries in the bytes, which must all be valid.
 fn join(
     bytes: &[u8],
     cluster_bits: u32,
@@ -93,7 +94,7 @@ fn join(
     count
 }
 
-// The extent of the entries from an index on. They are all valid.
+// The extent that begins with the entry at an index. All entries must be valid.
 #[inline]
 fn extent_at(
     bytes: &[u8],
@@ -122,8 +123,8 @@ fn extent_at(
     }
 }
 
-/// What the entries of an extent have in common: in the bits of the mask a value, which grows by a step from
-/// one entry to the next.
+/// What the entries of an extent have in common: under the mask the value of the first, which grows by `step`
+/// from one entry to the next.
 #[derive(Clone, Copy)]
 struct EntryPattern {
     mask: u64,
@@ -132,9 +133,9 @@ struct EntryPattern {
 }
 
 impl EntryPattern {
-    // The pattern of the entries that read on from this one, which is valid. Entries with a host cluster
-    // have the next one each time. Without one, the copied flag of an entry distinguishes none from cluster
-    // 0 of an external data file.
+    // The pattern of the entries that continue the extent of this valid one. Entries with a host cluster name
+    // consecutive ones. If guest data is external, the mask has the copied flag of an entry without one,
+    // which tells it from an entry with cluster 0.
     #[inline]
     fn of(entry: u64, cluster_bits: u32, external: bool) -> EntryPattern
         requires bits { IsClusterBits cluster_bits }
@@ -162,7 +163,7 @@ impl EntryPattern {
         }
     }
 
-    // The end of the entries that have the pattern of the one at an index.
+    // The index after the last entry that has the pattern of the one at `index`.
     #[inline]
     fn end(&self, bytes: &[u8], index: usize) -> usize
         requires within { 8 * index + 8 ≤ length bytes.now }
@@ -185,8 +186,8 @@ impl EntryPattern {
         self.end_before(bytes, index, end, entries)
     }
 
-    // Whether a block of entries has the pattern of the one at an index. There is no early exit, so that a
-    // compiler tests several at once.
+    // Whether a block of entries has the pattern of the one at `index`. Has no early exit, so that the
+    // compiler can test several at once.
     #[inline]
     fn all_have(&self, bytes: &[u8], index: usize, first: usize) -> bool
         requires order { index < first }
@@ -204,7 +205,8 @@ impl EntryPattern {
         all
     }
 
-    // The same end, where it isn't before the first index, or the limit where it would be past that.
+    // The same, searched from `first` to before `limit`. Returns `limit` if no entry there breaks the
+    // pattern.
     #[inline]
     fn end_before(&self, bytes: &[u8], index: usize, first: usize, limit: usize) -> usize
         requires order { (index < first) × (first ≤ limit) }

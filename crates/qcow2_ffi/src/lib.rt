@@ -1,6 +1,6 @@
-//! Calls of the libraries for programs in C. `include/zaqulle.h` says what each does.
+//! The library's functions for C. `include/zaqulle.h` says what each does.
 //!
-//! A call returns 0, or the number of the fault that it refuses by.
+//! A function returns 0 or the number of its fault.
 #![tactic(auto)]
 
 ghost use Rattle.std.specs.Prelude.{length};
@@ -21,7 +21,7 @@ use std::alloc::Global;
 
 mod tables;
 
-/// How many bytes the first cluster of an image has, by its first 104 bytes.
+/// Returns the size of an image's first cluster in bytes, from its first 104 bytes.
 #[unsafe(no_mangle)]
 pub extern "C" fn zq_header_bytes(first_bytes: &[u8], size: &mut usize) -> u32
     ensures { HandsOver (first_cluster_size first_bytes.now) result size.old size.new }
@@ -35,7 +35,7 @@ pub extern "C" fn zq_header_bytes(first_bytes: &[u8], size: &mut usize) -> u32
     }
 }
 
-/// What the header of an image says, by the bytes of its first cluster.
+/// Decodes the header of an image from the bytes of its first cluster.
 #[unsafe(no_mangle)]
 pub extern "C" fn zq_header_read(alloc: Global, bytes: &[u8], header: &mut HeaderFields) -> u32
     ensures { HandsOverHeader bytes.now result header.old header.new }
@@ -49,7 +49,7 @@ pub extern "C" fn zq_header_read(alloc: Global, bytes: &[u8], header: &mut Heade
     }
 }
 
-/// What a number in an L1 table says.
+/// Decodes an L1 entry.
 #[unsafe(no_mangle)]
 pub extern "C" fn zq_l1_entry(
     entry: u64,
@@ -70,7 +70,7 @@ pub extern "C" fn zq_l1_entry(
     }
 }
 
-/// What the cluster of a guest offset reads as, by its number in an L2 table.
+/// Decodes the L2 entry of a guest offset's cluster.
 #[unsafe(no_mangle)]
 pub extern "C" fn zq_l2_entry(
     entry: u64,
@@ -89,7 +89,7 @@ pub extern "C" fn zq_l2_entry(
     }
 }
 
-/// The first number in the bytes of an L2 table, or of a part of one, that is no entry.
+/// Finds the first invalid entry in the bytes of an L2 table, or of a part of one.
 #[unsafe(no_mangle)]
 pub extern "C" fn zq_l2_check(bytes: &[u8], header: &HeaderFields, index: &mut usize) -> u32
     ensures { ChecksEntries header.now bytes.now result index.old index.new }
@@ -104,7 +104,7 @@ pub extern "C" fn zq_l2_check(bytes: &[u8], header: &HeaderFields, index: &mut u
     }
 }
 
-/// What the cluster of a guest offset reads as, by the bytes of a whole image.
+/// Finds the mapping of a guest offset's cluster, by the bytes of a whole image.
 #[unsafe(no_mangle)]
 pub extern "C" fn zq_image_lookup(
     alloc: Global,
@@ -123,7 +123,7 @@ pub extern "C" fn zq_image_lookup(
     }
 }
 
-/// The counters of a refcount block from an index on, by the block's bytes.
+/// Reads refcounts from the bytes of a refcount block, from an index on.
 #[unsafe(no_mangle)]
 pub extern "C" fn zq_refcounts_read(
     bytes: &[u8],
@@ -140,7 +140,7 @@ pub extern "C" fn zq_refcounts_read(
     }
 }
 
-/// Counts in the bytes of a refcount block what an edit did to references.
+/// Updates the refcounts in the bytes of a refcount block after an edit.
 #[unsafe(no_mangle)]
 pub extern "C" fn zq_refcounts_settle(
     alloc: Global,
@@ -160,7 +160,7 @@ pub extern "C" fn zq_refcounts_settle(
     }
 }
 
-/// What the guest's disk reads as from an offset on, by the bytes of a whole image.
+/// Lists the extents of the guest's disk from an offset on, by the bytes of a whole image.
 #[unsafe(no_mangle)]
 pub extern "C" fn zq_image_extents(
     alloc: Global,
@@ -184,7 +184,7 @@ pub extern "C" fn zq_image_extents(
     }
 }
 
-/// What a check finds of a whole image, by its bytes.
+/// Checks a whole image by its bytes.
 #[unsafe(no_mangle)]
 pub extern "C" fn zq_image_check(
     alloc: Global,

@@ -1,4 +1,4 @@
-//! Calls on the bytes of L2 tables.
+//! Functions over the bytes of L2 tables.
 
 ghost use Rattle.qcow2_ffi.specs.Tables.{EditsTableFor, HandsOverEdits, HandsOverExtents};
 
@@ -9,7 +9,7 @@ use qcow2_bytes::{
 };
 use std::alloc::Global;
 
-/// Joins the entries in the bytes of an L2 table, or of a part of one, to extents.
+/// Joins the entries in the bytes of an L2 table, or of a part of one, into extents.
 #[unsafe(no_mangle)]
 pub extern "C" fn zq_l2_extents(
     bytes: &[u8],
@@ -57,7 +57,7 @@ pub extern "C" fn zq_l2_edit(
     )
 }
 
-// Leaves the numbers of an answer, and returns 0 or the fault's number.
+// Stores the numbers of the answer, and returns 0 or the fault's number.
 fn hand_over_edits(
     answer: Result<EditCounts, EditRefusal>,
     freed_count: &mut usize,

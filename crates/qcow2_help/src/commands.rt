@@ -234,7 +234,7 @@ IMAGE a read; with IMAGE also 35.
   $ qmeta explain 18 disk.qcow2
 ";
 
-/// All commands, a line each, and where to read on.
+/// All commands, one per line, and where to read on.
 #[tactic(auto, unfolding(crate::specs::CommandTexts::commands_text))]
 pub fn commands_help() -> &'static str
     ensures { result.now ≡ commands_text }
@@ -242,7 +242,7 @@ pub fn commands_help() -> &'static str
     COMMANDS
 }
 
-/// The version of the program, and the toolchain that it is proved with.
+/// The version of the program, and of the toolchain that proves it.
 #[tactic(auto, unfolding(crate::specs::CommandTexts::version_text))]
 pub fn version() -> &'static str
     ensures { result.now ≡ version_text }
@@ -250,7 +250,8 @@ pub fn version() -> &'static str
     VERSION
 }
 
-/// What a command prints, with its words, its statuses and its faults, if there is a command of this name.
+/// The help of a command: its output, its arguments, its statuses and its faults. `None` if there is no such
+/// command.
 #[tactic(auto, unfolding(crate::specs::CommandTexts::command_text))]
 pub fn command_help(name: &str) -> Option<&'static str>
     ensures { option_map (λ text. text.now) result ≡ command_text name.now }

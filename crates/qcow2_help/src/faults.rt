@@ -1,4 +1,4 @@
-//! The texts of `explain`: for each fault what must hold, what mostly breaks it, and what helps.
+//! The texts of `explain`: for each fault the rule that is broken, its usual causes, and what helps.
 
 ghost use Rattle.std.specs.Prelude.{◌≡◌, ◌<◌};
 ghost use Rattle.qcow2_base.specs.Fault.{fault_number};
@@ -280,8 +280,8 @@ Restore the header from a copy; `qmeta explain 41 IMAGE` says how many entries t
 the disk needs.
 ";
 
-/// What a fault means: its number and name, the rule of the format or of a call that is broken, what mostly
-/// breaks it, and what helps. It is the same whatever the fault carries.
+/// Returns the help of a fault: its number and name, the rule of the format or of a call that is broken, its
+/// usual causes, and what helps. Ignores what the fault carries.
 #[tactic(auto, unfolding(crate::specs::FaultTexts::fault_text))]
 pub fn fault_help(fault: &Fault) -> &'static str
     ensures { result.now ≡ fault_text fault.now }
@@ -314,7 +314,7 @@ pub fn fault_help(fault: &Fault) -> &'static str
     }
 }
 
-// The same of a fault from 24 on.
+// `fault_help` for faults from 24 on.
 #[tactic(auto, unfolding(crate::specs::FaultTexts::fault_text))]
 fn later_fault_help(fault: &Fault) -> &'static str
     requires { 23 < fault_number fault.now }

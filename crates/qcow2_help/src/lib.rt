@@ -1,5 +1,4 @@
-//! What the program `qmeta` says of itself: its commands, its version, and what each fault means. All texts
-//! are constants.
+//! The texts of `qmeta`: its commands, its version, and the meaning of each fault. All of them are constants.
 #![tactic(auto)]
 
 mod commands;

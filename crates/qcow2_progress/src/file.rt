@@ -1,4 +1,4 @@
-//! A file whose reads are watched.
+//! A file whose reads move the progress line.
 
 use super::progress::Progress;
 use std::fs::{Metadata, OpenFile};
@@ -6,7 +6,7 @@ use std::io;
 use std::io::{Read, Seek, SeekFrom, Write};
 use std::time::Clock;
 
-/// A file whose reads move the progress line. All other calls are passed on.
+/// A file whose reads move the progress line. It passes all other calls on.
 #[derive(Drop)]
 pub struct WatchedFile<'a, F, C, E> {
     file: F,
@@ -15,7 +15,7 @@ pub struct WatchedFile<'a, F, C, E> {
 }
 
 impl<'a, F, C, E> WatchedFile<'a, F, C, E> {
-    /// Wraps an open file, whose first call must seek. Its reads move this line.
+    /// Wraps an open file. Its first call must be a seek.
     pub fn new(file: F, progress: &'a Progress<'a, C, E>) -> WatchedFile<'a, F, C, E> {
         WatchedFile {
             file,

@@ -1,4 +1,4 @@
-//! A line at a terminal on how far a command is, which is wiped before anything else is written there.
+//! A line at a terminal that shows how far a command is. It is wiped before anything else is printed there.
 #![tactic(auto)]
 
 mod file;

@@ -1,11 +1,11 @@
-//! An output that shares its terminal with the line.
+//! An output that shares its terminal with the progress line.
 
 use super::progress::Progress;
 use std::io;
 use std::io::Write;
 use std::time::Clock;
 
-/// An output before whose writes the line is taken away, where both are at a terminal.
+/// An output that wipes the progress line before it writes, if both go to a terminal.
 #[derive(Drop)]
 pub struct WatchedOutput<'a, W, C, E> {
     output: W,
@@ -13,7 +13,7 @@ pub struct WatchedOutput<'a, W, C, E> {
 }
 
 impl<'a, W, C, E> WatchedOutput<'a, W, C, E> {
-    /// Over an output at the same terminal, or one that is elsewhere.
+    /// Wraps an output. `is_terminal` says whether it goes to a terminal.
     pub fn new(
         output: W,
         progress: &'a Progress<'a, C, E>,

@@ -1,4 +1,4 @@
-//! The line on how far a command is.
+//! The progress line.
 
 use super::tables::WatchedTable;
 use std::alloc::Global;
@@ -6,25 +6,24 @@ use std::cell::Cell;
 use std::io::Write;
 use std::time::{Clock, Duration, Instant};
 
-// How many milliseconds a command runs before it is told how far it is.
+// The milliseconds before the first line.
 const PATIENCE: u64 = 2000;
 
-// For how many milliseconds a line stays as it is.
+// The fewest milliseconds between two drawings of the line.
 const PAUSE: u64 = 100;
 
-// Goes to the start of a terminal's line, and wipes it.
+// Returns to the start of the terminal's line and clears it.
 const WIPE: &str = "\r\x1b[K";
 
-/// How far a command is that reads an image's L2 tables: how many of them it has begun to read, in how many
-/// passes over all. Two seconds after the start a line says it, which is drawn anew at most ten times a
-/// second.
+/// The progress of a command that reads an image's L2 tables: how many it has begun to read, and in which
+/// pass over all of them. A line shows it after two seconds, and is redrawn at most ten times a second.
 #[derive(Drop)]
 pub struct Progress<'a, C, E> {
     alloc: Global,
     clock: &'a C,
     terminal: E,
     tables: &'a [WatchedTable],
-    // When a line may be drawn, if ever.
+    // The earliest time for the next line. `None` if no line is ever drawn.
     next: Cell<Option<Instant>>,
     pass: Cell<u64>,
     begun: Cell<u64>,
@@ -33,8 +32,8 @@ pub struct Progress<'a, C, E> {
 }
 
 impl<'a, C: Clock, E: Write + Copy> Progress<'a, C, E> {
-    /// Of a command that begins now, and of an image with these L2 tables, in the order of their offsets.
-    /// Without any nothing is ever drawn.
+    /// The progress of a command that begins now. `tables` are the image's L2 tables, in the order of their
+    /// offsets. Without tables no line is ever drawn.
     pub fn new(
         alloc: Global,
         clock: &'a C,
@@ -58,14 +57,14 @@ impl<'a, C: Clock, E: Write + Copy> Progress<'a, C, E> {
         }
     }
 
-    /// Takes the line away, if one is there.
+    /// Wipes the line if it is shown.
     pub fn wipe(&self) {
         if self.is_shown.replace(false) {
             self.show(WIPE);
         }
     }
 
-    // Counts the tables that begin from an offset on, up to another one, and draws the line if it is time.
+    // Counts the tables that begin between the two offsets, and draws the line if it is due.
     pub(crate) fn has_read(&self, first: u64, end: u64) {
         if self.next.get().is_none() {
             return;
@@ -82,8 +81,8 @@ impl<'a, C: Clock, E: Write + Copy> Progress<'a, C, E> {
         }
     }
 
-    // Counts a table whose first bytes are read. Where all were begun in this pass, it is the first of the
-    // next.
+    // Counts a table whose first bytes are read, once in a pass. If this pass has begun all tables, the table
+    // is the first of the next pass.
     fn begin(&self, table: &WatchedTable) {
         let all = self.tables.len() as u64;
         if table.pass.get() == self.pass.get() {
@@ -97,7 +96,8 @@ impl<'a, C: Clock, E: Write + Copy> Progress<'a, C, E> {
         self.begun.set(self.begun.get().saturating_add(1));
     }
 
-    // Other lines are written to the same terminal. No line is drawn into one that isn't whole.
+    // Notes what an output has written to the same terminal: the progress line isn't drawn into an unfinished
+    // line.
     pub(crate) fn has_written(&self, bytes: &[u8]) {
         if let Some(last) = bytes.last() {
             self.is_mid_line.set(*last != b'\n');
@@ -112,7 +112,7 @@ impl<'a, C: Clock, E: Write + Copy> Progress<'a, C, E> {
         }
     }
 
-    // Draws the line. Where memory runs out there is none.
+    // Draws the line, unless memory runs out.
     fn draw(&self) {
         let (begun, all, pass) = (self.begun.get(), self.tables.len(), self.pass.get());
         if begun == 0 {
@@ -130,14 +130,14 @@ impl<'a, C: Clock, E: Write + Copy> Progress<'a, C, E> {
         self.next.set(later(self.clock, PAUSE));
     }
 
-    // Writes to the terminal. What it doesn't take is left out.
+    // Writes to the terminal, and ignores failures.
     fn show(&self, text: &str) {
         let mut terminal = self.terminal;
         let _ = terminal.write_all(text.as_bytes());
     }
 }
 
-// The time that many milliseconds from now, if a clock tells it.
+// The time in `pause` milliseconds. `None` if the clock fails.
 fn later<C: Clock>(clock: &C, pause: u64) -> Option<Instant> {
     Instant::now(clock)
         .ok()?

@@ -1,4 +1,4 @@
-//! The L2 tables of an image, and which of them were read.
+//! The L2 tables of an image, and the pass that read each last.
 
 ghost use Rattle.std.specs.Prelude.{⊤};
 
@@ -8,14 +8,14 @@ use qcow2_metadata::Header;
 use std::alloc::{AllocError, Global};
 use std::cell::Cell;
 
-/// An L2 table: where it begins, and in which pass over all of them it was begun last, 0 for none.
+/// An L2 table: its offset, and the last pass over all tables that has begun to read it, or 0.
 #[derive(Drop)]
 pub struct WatchedTable {
     pub(crate) offset: u64,
     pub(crate) pass: Cell<u64>,
 }
 
-// A sink of the walk over L2 tables that keeps where they begin, in an image with clusters of this size.
+// A sink of the walk over L2 tables that collects their offsets, in an image with this cluster size.
 #[derive(Drop)]
 struct TableOffsets {
     cluster_bits: u32,
@@ -23,7 +23,7 @@ struct TableOffsets {
 }
 
 impl UseSink for TableOffsets {
-    // Nothing is promised of the line at a terminal.
+    // The progress line promises nothing.
     ghost takes = { λ uses old new. ⊤ };
 
     fn take(&mut self, used: Use) -> Result<(), Fault> {
@@ -37,8 +37,8 @@ impl UseSink for TableOffsets {
     ghost takes_both = { λ first second a b c one other. tt };
 }
 
-/// The L2 tables of an image, in the order of their offsets. Fails where the image or its L1 table can't be
-/// read.
+/// Returns the L2 tables of an image, in the order of their offsets. Fails if the header or the L1 table
+/// can't be loaded.
 pub fn l2_tables<S: Storage>(alloc: Global, image: &mut S) -> Result<Vec<WatchedTable>, Fault> {
     let header = Header::load(alloc, image, false)?;
     let l1_table = load_l1_table(alloc, image, &header)?;
@@ -53,7 +53,7 @@ pub fn l2_tables<S: Storage>(alloc: Global, image: &mut S) -> Result<Vec<Watched
     Ok(unread(alloc, &offsets)?)
 }
 
-// Tables that weren't read yet.
+// Tables that no pass has read yet.
 fn unread(alloc: Global, offsets: &[u64]) -> Result<Vec<WatchedTable>, AllocError> {
     let mut tables = Vec::with_capacity(alloc, offsets.len())?;
     for offset in offsets {

@@ -1,4 +1,4 @@
-//! Where the names of a header lie in its bytes.
+//! The places of a header's names in its bytes.
 
 ghost use Rattle.std.specs.Prelude.{◌≡◌, ◌⊎◌, ◌+◌, ◌^◌, ◌<◌, ◌≤◌, ◌==◌, List, if◌then◌else◌, length};
 ghost use Rattle.qcow2_base.specs.Storage.{image_of};
@@ -18,7 +18,7 @@ const NO_NAME: NameRange = NameRange {
     length: 0,
 };
 
-// Where the backing file's name lies by the first part of a header.
+// The place of the backing file's name, by the first part of a header.
 pub(super) fn backing_name(v2: &V2Header) -> NameRange
     ensures { v2.now.backing_file_offset < 2 ^ 32 → result ≡ (if v2.now.backing_file_offset == 0 then no_name
         else record { offset = v2.now.backing_file_offset; length = v2.now.backing_file_size }) }
@@ -32,7 +32,8 @@ pub(super) fn backing_name(v2: &V2Header) -> NameRange
     }
 }
 
-// Where the first name of this type lies, that an extension of a header with these parts says.
+// The place of the name in the first extension of this type, of a header with these parts. `NO_NAME` in
+// version 2.
 pub(super) fn extension_name(
     bytes: &[u8],
     cluster_size: usize,
@@ -54,8 +55,8 @@ pub(super) fn extension_name(
     find_name(bytes, cluster_size, base.header_length as usize, kind)
 }
 
-// Where the first name of this type lies, that an extension from a place on says. All extensions end within
-// `len` bytes.
+// The place of the name in the first extension of this type, from `first` on. All extensions end within `len`
+// bytes.
 fn find_name(bytes: &[u8], len: usize, first: usize, kind: HeaderExtensionType) -> NameRange
     requires whole { len ≤ length bytes.now }
     requires len { len ≤ 2 ^ 21 }
@@ -81,7 +82,7 @@ fn find_name(bytes: &[u8], len: usize, first: usize, kind: HeaderExtensionType) 
     NO_NAME
 }
 
-// What the extension at a place begins with.
+// The type and length of the extension at a place.
 fn read_extension_header(bytes: &[u8], place: usize) -> HeaderExtensionHeader
     requires { place + 8 ≤ length bytes.now }
     ensures number { (link_at (image_of bytes.now) place).number ≡ result.extension_type }
@@ -90,7 +91,7 @@ fn read_extension_header(bytes: &[u8], place: usize) -> HeaderExtensionHeader
     read_be(bytes, place)
 }
 
-// The number of a type.
+// The number of an extension type.
 fn number(kind: HeaderExtensionType) -> u32
     ensures { result ≡ extension_number kind }
 {

@@ -1,4 +1,4 @@
-//! What a check finds of a whole image in memory.
+//! The check of a whole image in memory.
 
 ghost use Rattle.std.specs.Prelude.{◌≡◌, ◌⊎◌, ◌+◌, Ok, IfErr, IfOk, IsOkUnless, length, map, set};
 ghost use Rattle.qcow2_base.specs.Storage.{OnImage, OnlyReads, image_of};
@@ -14,47 +14,47 @@ use qcow2_check::{Finding, Findings, Totals};
 use qcow2_metadata::Header;
 use std::alloc::Global;
 
-/// What is wrong with a cluster, in plain numbers.
+/// A wrong cluster, in plain numbers.
 #[repr(C)]
 #[derive(Clone, Copy, Debug, PartialEq, Eq)]
 pub struct FindingFields {
-    /// The sum of what it is: 1 where it is leaked, its counter is greater than its number of uses; 2 where
-    /// it is missing, its counter is smaller; 4 where it is shared, its uses exclude each other.
+    /// A sum: 1 if the cluster is leaked, with a refcount greater than its number of references; 2 if it is
+    /// missing, with a smaller one; 4 if it is shared, with references that exclude each other.
     pub kinds: u32,
-    /// 0.
+    /// Always 0.
     pub reserved: u32,
-    /// The number of the cluster: it begins at that many times the cluster size.
+    /// The number of the cluster. It begins at that multiple of the cluster size.
     pub cluster: u64,
-    /// What its counter says, which is 0 where it has none.
+    /// Its refcount: 0 if no refcount block counts it.
     pub counter: u64,
-    /// How many uses it has.
+    /// The number of references to it.
     pub uses: u64,
 }
 
-/// How much is wrong with an image.
+/// The numbers of wrong clusters and copied flags in an image.
 #[repr(C)]
 #[derive(Clone, Copy, Debug, PartialEq, Eq)]
 pub struct CheckTotals {
-    /// How many clusters something is wrong with.
+    /// Wrong clusters.
     pub findings: u64,
-    /// How many of them are leaked.
+    /// Leaked clusters among them.
     pub leaked: u64,
-    /// How many are missing.
+    /// Missing clusters among them.
     pub missing: u64,
-    /// How many are shared.
+    /// Shared clusters among them.
     pub shared: u64,
-    /// How many copied flags are set in an entry whose cluster has a counter other than 1.
+    /// Copied flags that are set though the cluster's refcount isn't 1.
     pub false_flags: u64,
-    /// How many aren't set, though the counter is 1 or there is none.
+    /// Copied flags that aren't set though the refcount is 1 or the cluster has none.
     pub late_flags: u64,
 }
 
-/// Checks an image by the bytes of all of it, puts the clusters that something is wrong with into a list, in
-/// their order, as many as it has room for, and returns how much is wrong in all. What comes after them in
-/// the list stays as it is. After its last byte an image has zeros.
+/// Checks an image by its whole bytes. Writes as many wrong clusters as fit into `findings`, in the order of
+/// clusters, and returns the totals of the whole check. Elements of `findings` after them don't change. Past
+/// its last byte the image reads as zeros.
 ///
-/// Returns the fault of the header or of `Findings::new`, and leaves the list: one of 1 to 21 or 37. After 35
-/// nobody knows what the list has, if the image can be checked.
+/// Returns the fault of the header or of `Findings::new` (one of 1 to 21 or 37), and then doesn't change
+/// `findings`. After 35 the elements of `findings` are unspecified, if the image can be checked.
 pub fn image_check(
     alloc: Global,
     bytes: &[u8],
@@ -71,7 +71,7 @@ pub fn image_check(
     }
 }
 
-// The same of an image.
+// `image_check` over a storage.
 fn check_bytes<S: Storage>(
     alloc: Global,
     image: &mut S,
@@ -85,7 +85,7 @@ fn check_bytes<S: Storage>(
     check_with_header(alloc, image, &header, findings)
 }
 
-// The same of an image with this header.
+// The same for an image with this header.
 fn check_with_header<S: Storage>(
     alloc: Global,
     image: &mut S,
@@ -100,7 +100,7 @@ fn check_with_header<S: Storage>(
     put_all(reader, image, findings)
 }
 
-// The same of the image that a reader is at the start of.
+// The same with a reader before its first finding.
 fn put_all<S: Storage>(
     mut reader: Findings<'_>,
     image: &mut S,
@@ -118,8 +118,8 @@ fn put_all<S: Storage>(
     Ok(totals_in_fields(count, &totals))
 }
 
-// Puts the findings of the image that a reader is at the start of, and returns how many they are, and how
-// many of each kind.
+// Writes the findings of a reader before its first one to the list, as many as fit. Returns their number, and
+// their totals.
 fn put_findings<S: Storage>(
     reader: &mut Findings<'_>,
     image: &mut S,
@@ -144,7 +144,7 @@ fn put_findings<S: Storage>(
     Ok((count, totals))
 }
 
-// A number and one more. No image has that many clusters that it doesn't fit.
+// The next number. No image has enough clusters to overflow it.
 fn one_more(number: u64) -> Result<u64, Fault>
     ensures fault { IsOkUnless result NoMemory }
     ensures sum { IfOk result (λ sum. sum ≡ number + 1) }
@@ -152,7 +152,7 @@ fn one_more(number: u64) -> Result<u64, Fault>
     number.checked_add(1).ok_or(Fault::NoMemory)
 }
 
-// Puts a finding at a place of a list, if the list has that place.
+// Writes a finding to an index of the list, if the list is long enough.
 fn put_finding(findings: &mut [FindingFields], place: u64, finding: &Finding)
     ensures { findings.new ≡ set findings.old place (finding_fields finding.now) }
 {
@@ -175,7 +175,7 @@ fn fields_of(finding: &Finding) -> FindingFields
     }
 }
 
-// How many findings there are, and totals, in plain numbers.
+// The number of findings and the totals, in plain numbers.
 fn totals_in_fields(findings: u64, totals: &Totals) -> CheckTotals
     ensures { result ≡ totals_in_fields findings totals.now }
 {

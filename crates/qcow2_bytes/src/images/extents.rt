@@ -1,4 +1,4 @@
-//! What the disk of a whole image in memory reads as, in extents.
+//! The extents of a whole image in memory.
 
 ghost use Rattle.std.specs.Prelude.{◌≡◌, ◌⊎◌, Err, IfErr, IfOk, Ok, min};
 ghost use Rattle.qcow2_base.specs.Storage.{OnImage, image_of};
@@ -14,28 +14,28 @@ use qcow2_image::{Content, Extent, Extents};
 use qcow2_metadata::Header;
 use std::alloc::Global;
 
-/// A part of the guest's disk that reads as one, in plain numbers.
+/// A part of the guest's disk with content of one kind, in plain numbers.
 #[repr(C)]
 #[derive(Clone, Copy, Debug, PartialEq, Eq)]
 pub struct ExtentFields {
-    /// What its bytes read as, by the numbers of `EntryMapping`.
+    /// The kind of content, by the numbers of `EntryMapping`.
     pub kind: u32,
-    /// 0.
+    /// Always 0.
     pub reserved: u32,
-    /// Where it begins on the guest's disk, in bytes.
+    /// The offset of the extent on the guest's disk, in bytes.
     pub guest_offset: u64,
-    /// How many bytes of the disk it has. Never 0.
+    /// The length of the extent in bytes. Never 0.
     pub length: u64,
-    /// Where its first byte lies: for kind 0 in the backing file, for 1 and 3 in the data file. 0 for kind 2.
-    /// For kind 4, whose clusters are compressed each by itself, `l2_extents` says where the data of the
-    /// first begins, and `image_extents` 0.
+    /// The offset of its first byte: for kind 0 in the backing file; for kinds 1 and 3 in the external data
+    /// file, or in the image if it has none; 0 for kind 2. For kind 4, whose clusters are compressed one by
+    /// one, `l2_extents` gives the offset of the first one's data, and `image_extents` gives 0.
     pub offset: u64,
 }
 
-/// Why a list of extents ends before the disk does, and before its room is used up.
+/// The fault that ends a list of extents before the disk's end and the list's room are reached.
 #[derive(Clone, Copy, Debug, PartialEq, Eq)]
 pub struct CutShort {
-    /// How many extents come before the fault.
+    /// The number of extents before the fault.
     pub count: usize,
     pub fault: Fault,
 }
@@ -60,14 +60,14 @@ fn fields_of(extent: &Extent) -> ExtentFields
     }
 }
 
-/// Puts what the guest's disk reads as from an offset on, by the bytes of a whole image, into a list, and
-/// returns how many extents that are: as many as the list has room for, or all up to the disk's end. They
-/// follow one another, the first from the offset on, and none could be longer, as `Extents` returns them.
-/// From the disk's end on there are none. After its last byte an image has zeros.
+/// Writes the extents of the guest's disk from an offset on into `extents`, by the bytes of a whole image.
+/// Returns their number: as many as fit, or all up to the disk's end. They follow one another from the offset
+/// on, each as long as possible, as `Extents` returns them. There are none from the disk's end on. Past its
+/// last byte the image reads as zeros.
 ///
-/// Returns the fault of the header or of the L1 table, with no extent before it, or that of an L2 table that
-/// has to be read to know an extent, with those before: one of 1 to 21. What comes after these in the list
-/// stays as it is.
+/// Returns the fault of the header or of the L1 table with a count of 0, or that of an L2 table that is
+/// needed to know an extent, with the number of extents before it: one of 1 to 21. Elements of `extents`
+/// after them don't change.
 pub fn image_extents(
     alloc: Global,
     bytes: &[u8],
@@ -88,7 +88,7 @@ pub fn image_extents(
     }
 }
 
-// Puts the extents of an image's disk from an offset on.
+// Writes the extents of an image's disk from an offset on.
 fn put_extents<S: Storage>(
     alloc: Global,
     image: &mut S,
@@ -105,7 +105,7 @@ fn put_extents<S: Storage>(
     }
 }
 
-// The same in an image with this header.
+// The same for an image with this header.
 fn put_with_header<S: Storage>(
     alloc: Global,
     image: &mut S,
@@ -126,7 +126,7 @@ fn put_with_header<S: Storage>(
     }
 }
 
-// Puts the extents that a reader comes to.
+// Writes the next extents of a reader, as many as fit.
 fn put_next<S: Storage>(
     reader: &mut Extents<'_>,
     image: &mut S,

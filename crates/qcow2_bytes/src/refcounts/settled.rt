@@ -1,4 +1,4 @@
-//! Counters in the bytes of a refcount block that follow an edit.
+//! Updates of the refcounts in the bytes of a refcount block after an edit.
 
 ghost use Rattle.std.specs.Prelude.{◌≡◌, ◌^◌, IfErr, IfOk, length, map};
 ghost use Rattle.qcow2_base.specs.Storage.{image_of};
@@ -14,28 +14,26 @@ use qcow2_edits::{Outcome, settle};
 use qcow2_metadata::{ClustersToFreeEntry, Header, RefBlock};
 use std::alloc::{AllocError, Global};
 
-/// Clusters of the image, one after another.
+/// Consecutive host clusters.
 #[repr(C)]
 #[derive(Clone, Copy, Debug, PartialEq, Eq)]
 pub struct HostClusters {
-    /// The number of the first: its offset over the cluster size.
+    /// The number of the first cluster: its offset divided by the cluster size.
     pub first: u64,
-    /// How many they are.
+    /// The number of clusters.
     pub count: u64,
 }
 
-/// Counts in the bytes of a whole refcount block what an edit of an L2 table did to references, as `settle`
-/// does: one more for each time that a cluster is gained, one less for each range freed that it is among. A
-/// block counts as many clusters as it has counters, from its index in the refcount table times that number
-/// on. All others are passed over.
+/// Updates the refcounts in the bytes of a whole refcount block after an edit of an L2 table, as `settle`
+/// does: adds one for each time that a cluster is gained, and subtracts one for each freed range that has the
+/// cluster. A block with N refcounts counts N clusters, from its index in the refcount table times N on.
+/// Skips all other clusters.
 ///
-/// Refuses orders past 6 (8), and bytes that aren't as many as a cluster has (31): a power of two from 512 to
-/// 2^21. Then refuses gains by which a counter would pass the greatest number that it can hold, and losses of
-/// more than a counter and its gains (30). Takes memory for a copy of the block and of both lists. After a
-/// fault no byte has changed.
+/// Refuses orders past 6 (8), and bytes whose number isn't a cluster size, a power of two from 512 to 2^21
+/// (31). Then refuses gains that raise a refcount above its maximum, and losses that exceed a refcount and
+/// its gains (30). Takes memory for a copy of the block and of both lists. After a fault no byte has changed.
 ///
-/// Where guest data lies in an external data file, its clusters have no counters. Their gains and losses may
-/// not be counted.
+/// The clusters of an external data file have no refcounts: don't pass their gains and losses.
 pub fn settle_refcounts(
     alloc: Global,
     bytes: &mut [u8],
@@ -75,7 +73,7 @@ fn gained_clusters(alloc: Global, gained: &[u64]) -> Result<Vec<HostCluster>, Al
         .collect(alloc)
 }
 
-// These clusters as an edit hands them back.
+// The same ranges in the form of an `Outcome`.
 fn freed_clusters(
     alloc: Global,
     freed: &[HostClusters],
@@ -97,7 +95,7 @@ fn freed_clusters(
         .collect(alloc)
 }
 
-// The block that has these bytes, in an image with this header.
+// Loads the refcount block that has these bytes, in an image with this header.
 fn load_block(alloc: Global, bytes: &[u8], header: &Header) -> Result<RefBlock, Fault>
     ensures fault { IfErr result (λ fault. fault ≡ NoMemory) }
     ensures geometry { IfOk result (λ block. block.geometry ≡ block_geometry_of header.now) }
@@ -108,7 +106,7 @@ fn load_block(alloc: Global, bytes: &[u8], header: &Header) -> Result<RefBlock, 
     let mut image = SliceStorage::new(bytes, 0);
     match RefBlock::load(alloc, &mut image, header, HostCluster(0)) {
         Ok(block) => Ok(block),
-        // A block can lie at the image's begin, and no read of a slice fails.
+        // Can't happen: a block can lie at the image's start, and no read of a slice fails.
         Err(_) => Err(Fault::NoMemory),
     }
 }

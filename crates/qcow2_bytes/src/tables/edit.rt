@@ -1,4 +1,4 @@
-//! Edits in the bytes of an L2 table.
+//! Edits of the bytes of an L2 table.
 
 ghost use Rattle.std.specs.Prelude.{◌≡◌, ◌^◌, ◌≤◌, IfErr, IfOk, Ok, length, map};
 ghost use Rattle.std.specs.List.{list_any};
@@ -25,48 +25,48 @@ use std::alloc::{AllocError, Global};
 pub struct EditFields {
     /// 1: data in a host cluster. 2: zeros. 3: zeros that keep a host cluster. 4: no data.
     pub kind: u32,
-    /// Not looked at.
+    /// Ignored.
     pub reserved: u32,
     /// The index of the guest cluster's entry in the table.
     pub index: u64,
-    /// For kind 1 where the host cluster begins, in bytes. Else not looked at.
+    /// For kind 1 the offset of the host cluster in bytes. Ignored for the others.
     pub host_offset: u64,
 }
 
-/// How many elements there are in the lists of what edits did to references.
+/// The lengths of the lists of clusters that edits free and give references.
 #[derive(Clone, Copy, Debug, PartialEq, Eq)]
 pub struct EditCounts {
-    /// Ranges of clusters that lost a reference.
+    /// The number of ranges of clusters that lost a reference.
     pub freed: usize,
-    /// Clusters that gained one.
+    /// The number of clusters that gained a reference.
     pub gained: usize,
 }
 
-/// Why a table isn't edited.
+/// The refusal of edits.
 #[derive(Clone, Copy, Debug, PartialEq, Eq)]
 pub enum EditRefusal {
-    /// By the edits, or by what they are called with. A bad edit (32) has its position.
+    /// The edits or other arguments are invalid. A bad edit (32) has its position.
     Edits(Fault),
-    /// By the first number in the table that is no entry (18, 19).
+    /// The table has an invalid entry, the first of which this is (18, 19).
     Table(BadEntry),
-    /// By lists that are too short for that many elements.
+    /// The lists are too short for that many elements.
     NoRoom(EditCounts),
 }
 
-/// Makes edits in the bytes of a whole L2 table, all or none, as `edit_table` does. Puts the ranges of
-/// clusters that lost a reference each and the clusters that gained one into the lists, in the order of the
-/// edits, and returns how many those are: `settle_refcounts` takes them. What comes after them in the lists
-/// stays. Lists as long as that of the edits always have room.
+/// Makes edits in the bytes of a whole L2 table, all or none, as `edit_table` does. Writes the ranges of
+/// clusters that lost a reference each to `freed`, and the clusters that gained one to `gained`, in the order
+/// of the edits, and returns their numbers. Pass them on to `settle_refcounts`. Elements after them don't
+/// change. Lists as long as that of the edits are always long enough.
 ///
-/// Data goes to a cluster that has no other reference. Whether another entry refers to it, or the table
-/// itself lies there, is not looked at. Zeros that keep a host cluster hand back compressed data all the
-/// same.
+/// The caller maps data to a cluster that has no other reference. This call doesn't check whether another
+/// entry refers to it, or the table itself lies there. Zeros that keep a host cluster still free compressed
+/// data.
 ///
-/// Refuses zeros in an image of version 2 (27), then fields that no header has (3, 17), then bytes that
-/// aren't as many as a cluster has (31), and the first of their numbers that is no entry (18, 19). Then
-/// refuses the first edit of an unknown kind, past the table's end, or to an offset that begins no cluster
-/// that an entry can hold (32), and then lists that are too short. Takes memory for the table, the edits and
-/// the outcome. After any refusal no byte and no element has changed.
+/// Refuses zeros in an image of version 2 (27), then fields that no header has (3, 17), then bytes whose
+/// number isn't the cluster size (31), and the first invalid entry in them (18, 19). Then refuses the first
+/// edit of an unknown kind, past the table's end, or to an offset that isn't a multiple of the cluster size
+/// or that an entry can't hold (32), and then lists that are too short. Takes memory for the table, the edits
+/// and the outcome. After any refusal no byte and no element has changed.
 #[tactic(auto, using(crate::proofs::EditLemmas::whole_entries))]
 pub fn edit_l2_table(
     alloc: Global,
@@ -94,14 +94,14 @@ pub fn edit_l2_table(
 }
 
 impl EditFields {
-    // Whether the fields say zeros.
+    // Whether the edit makes zeros.
     fn says_zeros(&self) -> bool
         ensures { result ≡ says_zeros self.now }
     {
         self.kind == 2 || self.kind == 3
     }
 
-    // The edit that the fields say, or else one of an entry past the end of every table.
+    // The edit with these fields. For invalid fields, an edit past the end of every table, which is refused.
     fn edit(&self, cluster_bits: u32) -> Edit
         requires { IsClusterBits cluster_bits }
         ensures { result ≡ edit_said cluster_bits self.now }
@@ -126,7 +126,8 @@ impl EditFields {
     }
 }
 
-// What the meaning of the table's entries depends on, for edits that the image can have.
+// The cluster bits, and whether guest data lies in an external data file. Refuses zeros in version 2 (27),
+// fields that no header has (3, 17), and a number of bytes that isn't the cluster size (31).
 fn edit_geometry(
     bytes: &[u8],
     fields: &HeaderFields,
@@ -147,7 +148,7 @@ fn edit_geometry(
     Ok((cluster_bits, external))
 }
 
-// Whether an edit makes zeros.
+// Whether one of the edits makes zeros.
 fn have_zeros(edits: &[EditFields]) -> bool
     ensures { result ≡ list_any says_zeros edits.now }
 {
@@ -158,7 +159,7 @@ fn have_zeros(edits: &[EditFields]) -> bool
     )
 }
 
-// The edits that fields say.
+// The edits with these fields.
 fn edits_of(alloc: Global, edits: &[EditFields], cluster_bits: u32) -> Result<Vec<Edit>, AllocError>
     requires { IsClusterBits cluster_bits }
     ensures { IfOk result (λ list. list.items ≡ map (edit_said cluster_bits) edits.now) }
@@ -174,14 +175,14 @@ fn edits_of(alloc: Global, edits: &[EditFields], cluster_bits: u32) -> Result<Ve
         .collect(alloc)
 }
 
-/// A table after edits, and what they did to references.
+/// An edited table, and the references that its clusters gained and lost.
 #[derive(Drop)]
 struct EditedTable {
     table: L2Table,
     outcome: Outcome,
 }
 
-// The table that has these bytes, whose numbers are entries, after edits.
+// Loads the table that has these bytes, and makes the edits. All its entries must be valid.
 fn edited_table(
     alloc: Global,
     bytes: &[u8],
@@ -200,7 +201,7 @@ fn edited_table(
     Ok(EditedTable { table, outcome })
 }
 
-// The table that has these bytes, whose numbers are entries, in an image with such clusters.
+// Loads the table that has these bytes, in an image with such clusters. All its entries must be valid.
 fn load_table(
     alloc: Global,
     bytes: &[u8],
@@ -224,13 +225,15 @@ fn load_table(
         header.l2_entries(),
     ) {
         Ok(table) => Ok(table),
-        // A table can lie at the image's begin, no read of a slice fails, and its numbers are entries.
+        // Can't happen: a table can lie at the image's start, no read of a slice fails, and the entries are
+        // valid.
         Err(_) => Err(Fault::NoMemory),
     }
 }
 
 impl EditedTable {
-    // Puts the table's numbers into the bytes, and what was done to references into the lists.
+    // Writes the table's entries to the bytes, and the freed and gained clusters to the lists. Refuses lists
+    // that are too short, and then changes nothing.
     fn put(
         &self,
         bytes: &mut [u8],
@@ -260,7 +263,7 @@ impl EditedTable {
     }
 }
 
-// Puts the numbers of a table's entries into the bytes, which are as many as a cluster has.
+// Writes the entries of a table to bytes of the cluster size.
 #[tactic(auto, using(crate::proofs::EditLemmas::entry_bytes))]
 fn put_numbers(table: &L2Table, bytes: &mut [u8])
     requires { length bytes.old ≡ 2 ^ table.now.geometry.cluster_bits }
@@ -272,7 +275,7 @@ fn put_numbers(table: &L2Table, bytes: &mut [u8])
     }
 }
 
-// Puts ranges of clusters into a list, which has room for them.
+// Writes ranges of clusters to the list, which is long enough.
 fn put_freed(clusters: &[ClustersToFreeEntry], freed: &mut [HostClusters])
     requires { length clusters.now ≤ length freed.old }
     ensures { IsPutOver (map host_clusters clusters.now) freed.old freed.new }
@@ -285,7 +288,7 @@ fn put_freed(clusters: &[ClustersToFreeEntry], freed: &mut [HostClusters])
     }
 }
 
-// Puts the numbers of clusters into a list, which has room for them.
+// Writes the numbers of clusters to the list, which is long enough.
 fn put_gained(clusters: &[HostCluster], gained: &mut [u64])
     requires { length clusters.now ≤ length gained.old }
     ensures { IsPutOver (cluster_numbers clusters.now) gained.old gained.new }
