@@ -126,8 +126,8 @@ impl Plan {
 /// header, a fault leaves no refcount lower than its references that wasn't before, one torn write aside.
 ///
 /// After 34 some of this may be done, and any bytes may be in one table or block: don't repeat the call, but
-/// check the image and repair it. In an image as above no byte has changed after any other fault. All memory
-/// is allocated before the first write, so after 35 no byte has changed in any image.
+/// check the image and repair it. After any other fault no byte has changed, if nothing overlaps so. All
+/// memory is allocated before the first write, so after 35 no byte has changed in any image.
 pub fn apply_edits<S: Device>(
     alloc: Global,
     image: &mut S,

@@ -51,8 +51,8 @@ fn follow_block<S: Storage>(
     block.write_changes(image, cluster)
 }
 
-// The same for the block at an index of the refcount table. Does nothing if the index names no block, or no
-// cluster of it gained or lost references.
+// The same for the block at an index of the refcount table. Does nothing if the index names no block, or none
+// of its clusters gained or lost references.
 fn follow_at<S: Storage>(
     image: &mut S,
     tables: &CounterTables<'_>,

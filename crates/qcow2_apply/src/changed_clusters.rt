@@ -133,8 +133,8 @@ fn list_named<S: Storage>(
     list_block(clusters, first, before, &risen, &after)
 }
 
-// The same for the block at an index. Does nothing if the index names no block, or no cluster of it gained or
-// lost references.
+// The same for the block at an index. Does nothing if the index names no block, or none of its clusters
+// gained or lost references.
 fn list_at<S: Storage>(
     alloc: Global,
     image: &mut S,

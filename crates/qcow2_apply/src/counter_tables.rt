@@ -41,8 +41,8 @@ impl<'a> Model for CounterTables<'a> {
         × (blocks_fault t.header.now t.reftable.now.numbers ≡ None) };
 }
 
-/// Updates the refcounts of a block by what their clusters gained and lost. `index` is the block's in the
-/// refcount table.
+/// Updates the refcounts of a block by what their clusters gained and lost. `index` is that of the block in
+/// the refcount table.
 pub(crate) fn follow(
     block: &mut RefBlock,
     tables: &CounterTables<'_>,

@@ -131,8 +131,9 @@ impl GuestEdit {
         (first, first + length.cluster(cluster_bits).0)
     }
 
-    /// Whether the edit fits a disk of this header: its range is one or more whole clusters of the disk, and
-    /// an entry can refer to the host cluster that it maps, which isn't the header's.
+    /// Whether the edit fits a disk of this header: its range is one or more clusters of the disk, the last
+    /// of which may reach past the disk's end, and an entry can refer to the host cluster that it maps, which
+    /// isn't the header's.
     pub fn fits(&self, header: &Header) -> bool
         ensures { result ≡ guest_edit_fits header.now self.now }
     {
@@ -250,8 +251,8 @@ pub(crate) fn first_in(edits: &[GuestEdit], header: &Header, index: u32) -> Opti
     )
 }
 
-/// Refuses edits that no image with this header allows, in this order: if its L1 table is too short for the
-/// disk (fault 41) or it has an external data file (36), edits that don't fit the disk (32), and zeros in
+/// Refuses edits that no image with this header allows: all of them if its L1 table is too short for the disk
+/// (fault 41) or it has an external data file (36), then one that doesn't fit the disk (32), then zeros in
 /// version 2 (27).
 pub(crate) fn check_edits(header: &Header, edits: &[GuestEdit]) -> Result<(), Fault>
     ensures { result ≡ unless_refused (edits_refusal header.now edits.now) (Ok tt) }

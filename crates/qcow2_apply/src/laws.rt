@@ -35,10 +35,10 @@ pub fn counters_follow_uses_of_clusters()
         ≡ counter_of_cluster (counter_tables tables) old c + uses_of (image_uses tables new) c }
 {}
 
-/// If edits of an image whose tables and blocks don't overlap end in a fault, each refcount exceeds its
-/// references by at least as much as before. One write of a table or block may be torn, but only if the
-/// storage failed. So a refcount that was at least the number of references still is, and one that also
-/// counts references of a snapshot still does.
+/// If edits of an image whose tables and blocks don't overlap end in a fault, no refcount's margin over its
+/// references shrinks, except by one torn write of a table or block, and that only if the storage failed. So
+/// a refcount that was at least the number of references still is, and one that also counts references of a
+/// snapshot still does.
 pub fn edits_that_break_off_make_no_counter_too_low()
     ensures { (header : HeaderRecord) (edits : List GuestEdit) (plan : Plan) (fault : Fault)
         (old new : Image) → IsValidHeader header → IsPlanFor header edits plan →
@@ -48,10 +48,10 @@ pub fn edits_that_break_off_make_no_counter_too_low()
         × KeepDistance (plan_tables header plan) old mid }
 {}
 
-/// If the machine crashes during edits of an image whose tables and blocks don't overlap, each refcount
-/// exceeds its references by at least as much as before, whichever sectors written since the last sync are
-/// lost. So a refcount that was at least the number of references still is, and one that also counts
-/// references of a snapshot still does. A refcount left too high is a leak.
+/// If the machine crashes during edits of an image whose tables and blocks don't overlap, no refcount's
+/// margin over its references shrinks, whichever sectors written since the last sync are lost. So a refcount
+/// that was at least the number of references still is, and one that also counts references of a snapshot
+/// still does. A refcount left too high is a leak.
 ///
 /// The law assumes that the device keeps everything written before the last sync, and writes a sector of 512
 /// bytes whole or not at all. It assumes that the edits sync between their parts, and write each table or

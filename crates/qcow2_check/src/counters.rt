@@ -267,7 +267,7 @@ impl<'a> Counters<'a> {
         self.block.is_some() & (table_index == self.kept_index) & (kept == 1)
     }
 
-    /// Whether the cached block counts `count` clusters from one on, and all their refcounts are 1.
+    /// Whether the cached block counts `count` clusters from `first` on, and all their refcounts are 1.
     #[inline(always)]
     pub(crate) fn are_kept_sole(&self, first: HostCluster, count: usize) -> bool
         ensures { IsTrue result → (image : Image) → IsKeptBlockOf self.now.header image self.now.block →

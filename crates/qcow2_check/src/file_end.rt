@@ -81,8 +81,8 @@ fn missing_table(tables: &ImageTables<'_>, clusters: ClusterCount) -> Result<Opt
 
 /// Refuses an image that ends before a table or refcount block that the header or the active L1 table names.
 /// Bytes past the end read as zeros: a repair would free the clusters that such a table names, and a write
-/// would lengthen the image and hide the loss. A partial last cluster counts as present, and an image of
-/// unknown length has all clusters.
+/// would lengthen the image and hide the truncation. A partial last cluster counts as present, and an image
+/// of unknown length has all clusters.
 ///
 /// Returns the first of these faults: that of the L1 table, that of the refcount table, or 21 if a table or
 /// block has a cluster past the end. Changes no byte.

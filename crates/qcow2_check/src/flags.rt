@@ -267,7 +267,7 @@ fn are_right_in_a_row(counters: &Counters<'_>, table: &L2Table, first: usize) ->
     let cluster_bits = table.cluster_bits();
     let start = cluster_at(entry_at(table, first), cluster_bits);
     let last = cluster_at(entry_at(table, first + 15), cluster_bits);
-    // The last entry mostly decides this.
+    // Usually the last entry alone shows whether they are consecutive.
     last.0 == start.0 + 15
         && are_copied_from(table, first, start)
         && counters.are_kept_sole(start, TOGETHER)

@@ -8,7 +8,7 @@ use qcow2_base::{ClusterCount, Fault};
 use qcow2_metadata::Header;
 
 /// Returns the number of L1 entries that the whole disk needs: one for each L2 table, the last of which may
-/// map less than it could. More entries do no harm.
+/// be used only in part. More entries do no harm.
 pub fn needed_l1_entries(header: &Header) -> u64
     ensures { result ≡ needed_l1_entries header.now }
 {

@@ -127,7 +127,8 @@ fn plain_refusal<S: Storage>(
     }
 }
 
-// The refusal by a fault of a table. For 21 without such a fault, the refusal by a table past the file's end.
+// The refusal by a fault of a table. For 21, if no table has a fault, the refusal by a table past the file's
+// end.
 fn refusal_of_tables<S: Storage>(
     alloc: Global,
     image: &mut S,

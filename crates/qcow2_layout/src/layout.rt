@@ -171,8 +171,8 @@ impl<'a> Layout<'a> {
         Ok(part)
     }
 
-    // The part of cluster `from`, and the end of a stretch of clusters after it that surely continue it.
-    // Moves the window there if it doesn't hold the cluster.
+    // The part of cluster `from`, and the end of a stretch of clusters that surely continue its run. Moves
+    // the window there if it doesn't hold the cluster.
     fn piece<S: Storage>(&mut self, image: &mut S, from: u64) -> Result<(Part, u64), Fault>
         requires before { from < most_clusters self.old.header }
         requires reader { OnImage (S.state image.old) (λ bytes. IsLayoutOf bytes self.old) }

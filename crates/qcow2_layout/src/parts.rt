@@ -96,7 +96,7 @@ impl Part {
         }
     }
 
-    // Whether a cluster of part `next`, `bytes` after one of this part, continues its run.
+    // Whether a cluster of part `next`, `bytes` after a first one of this part, continues its run.
     #[inline]
     pub(crate) fn goes_on_as(self, bytes: u64, next: Part) -> bool
         ensures { IsTrue result ↔ (next ≡ moved_part bytes self) }

@@ -60,7 +60,7 @@ fn part_of(used: Use, cluster_bits: u32) -> Part
     }
 }
 
-// Makes `count` clusters from `first` on a part, unless they are one already.
+// Gives `count` clusters from `first` on a part, except those that have one already.
 #[inline(always)]
 #[tactic(auto, using(crate::proofs::WindowLemmas::places_next))]
 fn place_clusters(

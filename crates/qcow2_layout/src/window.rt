@@ -125,8 +125,8 @@ impl Window {
         }
     }
 
-    /// Makes a cluster a part, if the window holds the cluster and it has no part yet. If the map then has
-    /// too many cells, the window drops the last of them and ends before its cluster.
+    /// Gives a cluster a part, if the window holds the cluster and it has none yet. If the map then has too
+    /// many cells, the window drops the last of them and ends before its cluster.
     #[inline]
     pub(crate) fn put(&mut self, cluster: u64, part: Part) -> Result<(), Fault>
         requires { HasCode part }

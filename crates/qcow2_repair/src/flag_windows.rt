@@ -45,8 +45,8 @@ fn write_l1_table<S: Storage>(
     Ok(())
 }
 
-// Corrects the copied flags of entries that name clusters of one window, which begins with cluster `first`.
-// Returns the window's end.
+// Clears or sets copied flags, as `flag` says, in the entries that need it and name clusters of the window
+// from `first` on. Returns the window's end.
 #[tactic(auto, using(crate::proofs::FlagWindowsLemmas::l1_fits))]
 fn pass_window<S: Storage>(
     image: &mut S,

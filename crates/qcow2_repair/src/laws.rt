@@ -80,7 +80,7 @@ pub fn no_step_of_a_repair_makes_a_counter_too_low()
         makes_none repair.cleared × makes_none repair.raised × makes_none repair.lowered × makes_none new }
 {}
 
-/// Nor does a repair that ends in a fault, unless the storage fails: so it is safe if memory runs out.
+/// Nor does a repair that ends in a fault, unless the storage fails. So none is too low if memory runs out.
 pub fn a_repair_that_breaks_off_makes_no_counter_too_low_unless_the_storage_fails()
     ensures { (header : HeaderRecord) (reftable : List ℕ) (fault : Fault) (old new : Image) →
         IsRepairable (tables_in header reftable old) old → BreaksOffRepair header reftable fault old new →
