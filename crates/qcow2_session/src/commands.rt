@@ -1,4 +1,4 @@
-//! The commands of the program `qmeta`: which there are, and what asks for each.
+//! The commands of `qmeta`, parsed from the words of a command line.
 
 ghost use Rattle.std.specs.Prelude.{◌≡◌, map, string_bytes};
 ghost use Rattle.qcow2_session.specs.Commands as spec;
@@ -53,7 +53,7 @@ pub use tables::print_tables;
 use words::alone;
 pub use words::{Arguments, FileName};
 
-/// What a line of words asks for, of the image that it names.
+/// A command, without the image that it is for.
 #[derive(Drop)]
 pub enum Command {
     /// `info IMAGE`: what the header says.
@@ -74,32 +74,32 @@ pub enum Command {
     Layout {
         form: LayoutForm,
     },
-    /// `refcount IMAGE CLUSTER..`: the counters of host clusters.
+    /// `refcount IMAGE CLUSTER..`: the refcounts of host clusters.
     Refcount {
         clusters: Arguments<HostCluster>,
     },
-    /// `check IMAGE`, or `check IMAGE json`: whether counters and flags are what the tables say. `check IMAGE
-    /// repair`: the same after they were made right.
+    /// `check IMAGE`, or `check IMAGE json`: whether refcounts and copied flags are right. `check IMAGE
+    /// repair`: repairs them first.
     Check {
         form: CheckForm,
     },
-    /// `apply IMAGE EDIT..`: edits of the guest's disk, with the counters of clusters. `apply IMAGE plan
-    /// EDIT..`: what becomes of clusters by them.
+    /// `apply IMAGE EDIT..`: edits ranges of the guest's disk, refcounts included. `apply IMAGE plan
+    /// EDIT..`: prints the same and writes nothing.
     Apply {
         form: ApplyForm,
         edits: Arguments<DiskEdit>,
     },
-    /// `edit IMAGE L1INDEX EDIT..`: edits of the L2 table of an L1 entry.
+    /// `edit IMAGE L1INDEX EDIT..`: edits the L2 table that an L1 entry names.
     Edit {
         l1_index: usize,
         edits: Arguments<Edit>,
     },
-    /// `count IMAGE CLUSTER STEP..`: steps of the refcount block that begins with a cluster.
+    /// `count IMAGE CLUSTER STEP..`: steps refcounts of the refcount block at a cluster.
     Count {
         cluster: HostCluster,
         steps: Arguments<Step>,
     },
-    /// `l2 IMAGE CLUSTER_BITS CLUSTER`: what the L2 table that begins with a cluster maps.
+    /// `l2 IMAGE CLUSTER_BITS CLUSTER`: lists the L2 table at a cluster.
     L2 {
         cluster_bits: ClusterBits,
         cluster: HostCluster,
@@ -107,10 +107,10 @@ pub enum Command {
 }
 
 impl Command {
-    /// The command that a name, the image's name and the words after it ask for, if they ask for one.
-    /// `--help` or `-h` alone after the name is an image's name for `info`, `list`, `at`, `edit`, `count`
-    /// and `l2`. After others it asks for help, and for no command. Fails only where memory for a command
-    /// runs out.
+    /// Parses a command's name, the image's name and the words after it. Returns nothing if they are no
+    /// command. `--help` or `-h` alone after the name is an image's name for `info`, `list`, `at`, `edit`,
+    /// `count` and `l2`; after other names it asks for help, which is no command. Fails only if memory for
+    /// the command runs out.
     pub fn parse(
         alloc: Global,
         name: &str,
@@ -125,7 +125,7 @@ impl Command {
         Command::parse_named(alloc, name, image, arguments)
     }
 
-    // The same where an image may have any name.
+    // Does the same for any name of an image, `--help` and `-h` included.
     fn parse_named(
         alloc: Global,
         name: &str,
@@ -169,7 +169,7 @@ impl Command {
         )
     }
 
-    /// Whether the command reads all tables of its image. Over a file it reads them in pages.
+    /// Whether the command reads all tables of its image. From a file it reads them in pages.
     pub fn reads_all_tables(&self) -> bool
         ensures { result ≡ (spec.facts_of self.now).reads_all_tables }
     {
@@ -179,8 +179,8 @@ impl Command {
         )
     }
 
-    // Whether the command loads its header as one who writes to the image. A repair writes to it only after
-    // it has found that it can repair it.
+    // Whether the command loads its header for writing. A repair writes only once it knows that it can
+    // repair the image.
     fn loads_to_write(&self) -> bool
         ensures { result ≡ (spec.facts_of self.now).loads_to_write }
     {

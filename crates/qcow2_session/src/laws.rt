@@ -41,9 +41,9 @@ pub use qcow2_image::laws::{
     an_l2_table_lies_apart_where_nothing_is_found,
 };
 
-/// Where an image's bytes are known, a command that loads its header goes by the one that these have by the
-/// grammar, or ends in their fault, unless memory ran out or a call of the storage failed. One that doesn't
-/// load it to write leaves these bytes.
+/// If the image's bytes are known, a command that loads its header gets exactly the one that the grammar
+/// reads from them, or its fault, unless memory runs out or a call of the storage fails. A load for writing
+/// then clears the autoclear bits; any other load leaves the bytes unchanged.
 pub fn a_command_goes_by_the_header_of_its_bytes()
     ensures { (command : Command) (found : Result HeaderRecord Fault) (old left : StorageState) →
         FindsHeader (facts_of command) found old left → (facts_of command).cluster_bits ≡ None →
@@ -53,31 +53,31 @@ pub fn a_command_goes_by_the_header_of_its_bytes()
         × ((facts_of command).loads_to_write ≡ false → left.byte_at ≡ old.byte_at) }
 {}
 
-/// Where a check finds an image consistent, nothing is wrong with any of its clusters.
+/// If a check finds an image consistent, nothing is wrong with any of its clusters.
 pub fn all_is_right_where_the_verdict_is_fine()
     ensures { (tables : ImageTables) (image : Image) → (report_on tables image).verdict ≡ Fine →
         AreRight tables image 0 max_file_length }
 {}
 
-/// A check's verdict is `Fine` exactly where the image is consistent and its L1 table is long enough: nothing
-/// is found of a cluster, no copied flag is wrong, and no part of the disk is past the L1 table.
+/// A check's verdict is `Fine` exactly if the image is consistent and its L1 table is long enough: no
+/// cluster has a finding, no copied flag is wrong, and no part of the disk is past the L1 table.
 pub fn a_verdict_is_fine_just_where_an_image_is_consistent()
     ensures { (tables : ImageTables) (image : Image) → ((report_on tables image).verdict ≡ Fine)
         ↔ (IsConsistent tables image × (is_l1_short tables.header ≡ false)) }
 {}
 
-/// A check's verdict is `Harmful` exactly where a cluster is missing or shared, a flag is false, or the L1
-/// table is too short for the disk.
+/// A check's verdict is `Harmful` exactly if a cluster is missing or shared, a copied flag is false, or the
+/// L1 table is too short for the disk.
 pub fn a_verdict_is_harmful_just_where_there_are_errors()
     ensures { (tables : ImageTables) (image : Image) → ((report_on tables image).verdict ≢ Harmful)
         ↔ (HasNoErrors tables image × (is_l1_short tables.header ≡ false)) }
 {}
 
-/// Where a check of an image ends with a verdict that isn't `Harmful`, and no two L1 entries name one L2
-/// table, it does so after edits of the disk were made, with the header that they leave. So a check can read
-/// all tables still, and what it finds then is leaked clusters and late flags at most. An image that began
-/// with the header begins with the one that is left, so that a check of its bytes finds this by itself. That
-/// asks that no byte of the backing file's name is one of those that are cleared.
+/// If the verdict on an image isn't `Harmful`, and no two L1 entries name one L2 table, the verdict after
+/// edits of the disk isn't either, with the header that they leave: a check can still load all tables, and
+/// finds leaked clusters and late flags at most. If the image's bytes had the header, they have the one
+/// that is left, so a check that reads it from them finds the same. That holds unless clearing the
+/// autoclear bits changes the backing file's name.
 pub fn edits_of_a_disk_leave_no_harm_where_there_was_none()
     ensures { (header left : HeaderRecord) (edits : List GuestEdit) (clusters : ChangedClusters)
         (old new : Image) (tables : ImageTables) → IsValidHeader header →
@@ -87,17 +87,18 @@ pub fn edits_of_a_disk_leave_no_harm_where_there_was_none()
         × (header_of old ≡ Ok header → LosesNoName header → header_of new ≡ Ok left) }
 {}
 
-/// Where a check's verdict on an image isn't `Harmful`, and no two L1 entries name one L2 table, its tables
-/// and blocks are apart, as other laws ask. Leaked clusters and late flags don't matter. A check doesn't see
-/// an L2 table that two L1 entries name as shared, as snapshots share tables in that way.
+/// If a check's verdict on an image isn't `Harmful`, and no two L1 entries name one L2 table, its tables
+/// and blocks don't overlap, as other laws require. Leaked clusters and late flags don't matter. A check
+/// doesn't report an L2 table that two L1 entries name as shared, since snapshots share tables in that way.
 pub fn tables_and_blocks_are_apart_where_a_check_finds_no_harm()
     ensures { (tables : ImageTables) (image : Image) → (report_on tables image).verdict ≢ Harmful →
         blocks_fault tables.header tables.reftable ≡ None → ArePlacesApart (l2_tables_of tables) →
         AreAllApart tables }
 {}
 
-/// Where edits of a disk were made in an image whose tables and blocks are apart, each guest offset that no
-/// edit's range has reads as before, by the same L1 table. What couldn't be loaded is refused as before.
+/// After edits of the disk of an image whose tables and blocks don't overlap, each guest offset in no
+/// edit's range reads as before, by the same L1 table. A table that couldn't be loaded is refused as
+/// before.
 pub fn what_no_edit_covers_reads_as_before()
     ensures { (header : HeaderRecord) (edits : List GuestEdit) (plan : Plan) (old new : Image) →
         IsValidHeader header → IsPlanFor header edits plan → IsPlanOf header edits old plan →
@@ -107,8 +108,8 @@ pub fn what_no_edit_covers_reads_as_before()
         ≡ guest_mapping (geometry_of header) plan.l1_table.numbers offset old }
 {}
 
-/// And each guest offset that some edit's range has reads as the edits leave it, one after the other, by
-/// what it read as before, which is known.
+/// And each guest offset in some edit's range reads as the edits, one after the other, leave what it read
+/// as before, which is known.
 pub fn what_edits_cover_reads_as_they_leave_it()
     ensures { (header : HeaderRecord) (edits : List GuestEdit) (plan : Plan) (old new : Image) →
         IsValidHeader header → IsPlanFor header edits plan → IsPlanOf header edits old plan →
@@ -120,9 +121,9 @@ pub fn what_edits_cover_reads_as_they_leave_it()
         ≡ Ok (mapping_left header.v2.cluster_bits offset edits before)) }
 {}
 
-/// Where nothing is found of an image, and no two L1 entries name one L2 table, edits of its disk leave what
-/// each guest offset reads as, by the image's own L1 table: as before, or as the edits of it leave that. What
-/// couldn't be read is refused as before.
+/// If an image has no findings, and no two L1 entries name one L2 table, then after edits of its disk each
+/// guest offset reads, by the image's own L1 table, as before, or as the edits of it leave that. A table
+/// that couldn't be read is refused as before.
 pub fn a_consistent_disk_reads_as_edits_leave_it()
     ensures { (header : HeaderRecord) (edits : List GuestEdit) (plan : Plan) (old new : Image) →
         IsValidHeader header → IsPlanFor header edits plan → IsPlanOf header edits old plan →
@@ -133,8 +134,8 @@ pub fn a_consistent_disk_reads_as_edits_leave_it()
         ≡ result_map (mapping_left header.v2.cluster_bits offset edits) (mapping_in header offset old) }
 {}
 
-/// And all of that holds by the image's bytes alone, if no byte of the backing file's name is one of the
-/// header's autoclear features, or it has none of these.
+/// And all of that holds by the image's bytes alone, if clearing the autoclear bits changes no byte of the
+/// backing file's name, or none is set.
 pub fn a_consistent_image_reads_as_edits_leave_it()
     ensures { (header : HeaderRecord) (edits : List GuestEdit) (plan : Plan) (old new : Image) →
         header_of old ≡ Ok header → LosesNoName header → IsValidHeader header →
@@ -146,8 +147,8 @@ pub fn a_consistent_image_reads_as_edits_leave_it()
         ≡ result_map (mapping_left header.v2.cluster_bits offset edits) (image_mapping offset old) }
 {}
 
-/// The same holds where a check's verdict on the image isn't `Harmful`: leaked clusters and late flags may be
-/// found of it.
+/// The same holds if a check's verdict on the image isn't `Harmful`: it may have leaked clusters and late
+/// flags.
 pub fn a_disk_without_harm_reads_as_edits_leave_it()
     ensures { (header : HeaderRecord) (edits : List GuestEdit) (plan : Plan) (old new : Image) →
         IsValidHeader header → IsPlanFor header edits plan → IsPlanOf header edits old plan →
@@ -158,8 +159,8 @@ pub fn a_disk_without_harm_reads_as_edits_leave_it()
         ≡ result_map (mapping_left header.v2.cluster_bits offset edits) (mapping_in header offset old) }
 {}
 
-/// And so it does by the image's bytes alone, if no byte of the backing file's name is one of the header's
-/// autoclear features, or it has none of these.
+/// And that holds by the image's bytes alone, if clearing the autoclear bits changes no byte of the backing
+/// file's name, or none is set.
 pub fn an_image_without_harm_reads_as_edits_leave_it()
     ensures { (header : HeaderRecord) (edits : List GuestEdit) (plan : Plan) (old new : Image) →
         header_of old ≡ Ok header → LosesNoName header → IsValidHeader header →
@@ -171,15 +172,15 @@ pub fn an_image_without_harm_reads_as_edits_leave_it()
         ≡ result_map (mapping_left header.v2.cluster_bits offset edits) (image_mapping offset old) }
 {}
 
-/// A repair that was done keeps what each guest offset reads as, by the header that it leaves: the same kind,
-/// with the same cluster, offset and length. Only the copied flag may be another.
+/// A completed repair keeps what each guest offset reads as, by the header that it leaves: the same kind,
+/// with the same cluster, offset and length. Only the copied flag may change.
 pub fn a_repaired_disk_reads_as_before()
     ensures { (header written : HeaderRecord) (old new : Image) → IsValidHeader header → IsBytes old →
         IsRepaired header written old new → (offset : ℕ) →
         ReadSame (mapping_in written offset new) (mapping_in header offset old) }
 {}
 
-/// Of edits whose ranges have a guest offset the last decides what it reads as: data in its host cluster,
+/// Of several edits of a guest offset, the last decides what it reads as: data in the edit's host cluster,
 /// the backing file, zeros, or zeros that keep the cluster that the edits before it left there.
 pub fn the_last_edit_that_covers_an_offset_decides()
     ensures { (cluster_bits offset : ℕ) (before later : List GuestEdit) (edit : GuestEdit) (first : Mapping) →

@@ -1,5 +1,5 @@
-//! The commands of `qmeta`. Passes on what a tool on qcow2 images needs besides the metadata itself:
-//! findings and repairs, lists of changes, lookups and extents.
+//! The commands of `qmeta`. Re-exports what a tool on qcow2 images needs besides the metadata itself:
+//! findings and repairs, lists of edits, lookups and extents.
 #![tactic(auto)]
 
 pub mod commands;

@@ -1,4 +1,4 @@
-//! What several commands print: a mapping, and the lines of a list.
+//! Lines that several commands print: mappings, and the items of lists.
 
 ghost use Rattle.std.specs.Prelude.{◌≡◌, ◌+◌, ◌≤◌, ◌++◌, ℕ, List, flat_map, length};
 ghost use Rattle.qcow2_metadata.specs.Entries.L2Mapping.{IsPlaced, meaning};
@@ -14,17 +14,17 @@ use qcow2_base::Fault;
 use qcow2_metadata::L2Mapping;
 use std::io::Write;
 
-/// An item of a list that is printed as a line.
+/// A value that prints as one or more lines.
 pub(crate) trait ToLine {
-    /// Its line.
+    /// The text, as bytes.
     ghost line: { Self → List ℕ };
 
-    /// Its line, put together.
+    /// Returns the text.
     fn to_line(&self) -> LineBuffer
         ensures { result ≡ line self.now };
 }
 
-/// Prints the line of each item.
+/// Prints the lines of each item.
 #[tactic(auto, using(crate::proofs::PrintingLemmas::lines_printed))]
 pub(crate) fn print_lines<T: ToLine, O: Write>(items: &[T], out: &mut O) -> Result<(), Fault>
     ensures { PrintsText result (O.contents out.old) (O.contents out.new) (flat_map T.line items.now) }
@@ -35,7 +35,7 @@ pub(crate) fn print_lines<T: ToLine, O: Write>(items: &[T], out: &mut O) -> Resu
     Ok(())
 }
 
-/// Puts a mapping in front of a line: what it is, its offset, and its length or whether it is copied.
+/// Puts a mapping in front of a line: its kind, its offset, and its length or whether it is copied.
 pub(crate) fn prepend_mapping(line: &mut LineBuffer, mapping: &L2Mapping, cluster_bits: u32)
     requires placed { IsPlaced cluster_bits mapping.now }
     requires room { length line.old ≤ 100 }
@@ -77,7 +77,7 @@ pub(crate) fn prepend_mapping(line: &mut LineBuffer, mapping: &L2Mapping, cluste
     }
 }
 
-// Puts the offset of a cluster in front of a line, and its mark where its refcount is exactly one.
+// Puts the offset of a cluster in front of a line, and ` copied` after it if the copied flag is set.
 #[inline]
 fn prepend_place(line: &mut LineBuffer, offset: u64, copied: bool)
     requires { length line.old ≤ 100 }

@@ -1,4 +1,4 @@
-//! The command `apply`: edits of ranges of the guest's disk, with the counters of clusters.
+//! The command `apply`: edits ranges of the guest's disk, refcounts included.
 
 ghost use Rattle.std.specs.Prelude.{◌≡◌, ◌++◌, IfOk, false, map, not, string_bytes};
 ghost use Rattle.qcow2_base.specs.Storage.{OnImage, OnImages, OnlyReads};
@@ -20,26 +20,26 @@ use qcow2_metadata::Header;
 use std::alloc::{AllocError, Global};
 use std::io::Write;
 
-/// Whether edits of a disk are made, or only planned.
+/// Whether edits of a disk are made or only planned.
 #[derive(Clone, Copy, Debug, PartialEq, Eq)]
 pub enum ApplyForm {
-    /// They are made.
+    /// Makes the edits.
     Make,
-    /// What they would do is looked at, and nothing is written.
+    /// Finds what they would do, and writes nothing.
     Plan,
 }
 
-/// An edit of a disk, as a word says it. Offsets and lengths are in bytes.
+/// An edit of a disk, as a word of the command line gives it. Offsets and lengths are in bytes.
 #[derive(Clone, Copy, Debug, PartialEq, Eq)]
 pub enum DiskEdit {
-    /// One whose range the word says.
+    /// An edit that the word gives in full.
     Range(GuestEdit),
-    /// One cluster has no data.
+    /// A discard of one cluster, without a length.
     DiscardCluster { offset: GuestOffset },
 }
 
 impl DiskEdit {
-    /// The edit that it is of a disk with clusters of this size.
+    /// Returns the edit of a disk whose clusters have this size in bytes.
     pub fn guest_edit(&self, cluster_size: usize) -> GuestEdit
         ensures { result ≡ spec.guest_edit cluster_size self.now }
     {
@@ -52,8 +52,8 @@ impl DiskEdit {
         }
     }
 
-    // Whether it fits the disk of an image with this header and this length in bytes, and a cluster that it
-    // maps begins before the image's end.
+    // Whether the edit fits the disk of an image with this header and this length in bytes, and a cluster
+    // that it maps begins before the image's end.
     fn fits_within(&self, header: &Header, len: u64) -> bool
         ensures { result ≡ spec.fits_within len header.now self.now }
     {
@@ -70,14 +70,13 @@ impl DiskEdit {
     }
 }
 
-/// Makes edits of the disk of an image with this header, or plans them, and prints what becomes of
-/// clusters: those that are free then, those that lost a reference and have others, and those that gained
-/// one. A plan ends with the number of bitmaps that agree with the disk, if there are such: the edits make
-/// them stale.
+/// Makes or plans edits of the disk of an image with this header. Prints the clusters that are free
+/// afterwards, those that lost a reference and have others, and those that gained one. A plan ends with the
+/// number of bitmaps that agree with the disk, if there are any: the edits make them stale.
 ///
-/// Returns the faults of `apply_edits`, before any line. 35 comes before a byte changes, and so do all but 34
-/// where no cluster is that of two tables or blocks, or the header's. A failed write to `out` is the storage
-/// fault: the edits are made by then.
+/// Returns the faults of `apply_edits`, before any line. 35 comes before a byte changes. So do all others
+/// except 34, if no cluster belongs to two tables or blocks, or to one and the header. A failed write to
+/// `out` is the storage fault: the edits are made by then.
 pub fn edit_disk<S: Device, O: Write>(
     alloc: Global,
     image: &mut S,
@@ -97,7 +96,7 @@ pub fn edit_disk<S: Device, O: Write>(
     print_changes(&clusters, bitmaps, out)
 }
 
-// How many bitmaps edits of a disk make stale, where they are planned, if there are such.
+// The number of bitmaps that planned edits make stale, if there are any.
 fn stale_bitmaps(form: ApplyForm, header: &Header) -> Option<u32>
     ensures { result ≡ spec.stale_bitmaps form header.now }
 {
@@ -107,7 +106,7 @@ fn stale_bitmaps(form: ApplyForm, header: &Header) -> Option<u32>
     }
 }
 
-// What becomes of clusters by edits of a disk, which are made or planned.
+// Makes or plans edits of the disk, and returns the clusters that they change.
 fn changed_clusters<S: Device>(
     alloc: Global,
     image: &mut S,
@@ -128,7 +127,7 @@ fn changed_clusters<S: Device>(
     }
 }
 
-// The same where they are made.
+// Makes the edits.
 fn made_clusters<S: Device>(
     alloc: Global,
     image: &mut S,
@@ -145,7 +144,7 @@ fn made_clusters<S: Device>(
     apply_edits(alloc, image, &mut header, edits)
 }
 
-// The same where they are planned.
+// Plans the edits.
 fn planned_clusters<S: Device>(
     alloc: Global,
     image: &mut S,
@@ -173,7 +172,7 @@ pub(super) fn first_unfit_within(header: &Header, edits: &[DiskEdit], len: u64) 
     )
 }
 
-// The edits that some are of a disk of this header.
+// The edits of a disk with this header.
 fn guest_edits(
     alloc: Global,
     header: &Header,
@@ -192,7 +191,7 @@ fn guest_edits(
         .collect(alloc)
 }
 
-// Prints what becomes of clusters, and then how many bitmaps become stale.
+// Prints the changed clusters, and then the number of stale bitmaps.
 fn print_changes<O: Write>(
     clusters: &ChangedClusters,
     bitmaps: Option<u32>,
@@ -205,7 +204,7 @@ fn print_changes<O: Write>(
     print_bitmaps(bitmaps, out)
 }
 
-// Prints how many bitmaps become stale, if any do.
+// Prints the number of stale bitmaps, if there are any.
 fn print_bitmaps<O: Write>(bitmaps: Option<u32>, out: &mut O) -> Result<(), Fault>
     ensures { PrintsText result (O.contents out.old) (O.contents out.new) (spec.bitmaps_line bitmaps) }
 {
@@ -219,7 +218,7 @@ fn print_bitmaps<O: Write>(bitmaps: Option<u32>, out: &mut O) -> Result<(), Faul
     print(line.as_bytes(), out)
 }
 
-// Prints what becomes of clusters.
+// Prints the changed clusters.
 fn print_clusters<O: Write>(clusters: &ChangedClusters, out: &mut O) -> Result<(), Fault>
     ensures { PrintsText result (O.contents out.old) (O.contents out.new) (spec.changed_lines clusters.now) }
 {
@@ -243,7 +242,7 @@ impl ToLine for KeptCluster {
     }
 }
 
-/// What the words of the command `apply` ask for.
+/// Parses the arguments of the command `apply`.
 pub(super) fn parse(alloc: Global, arguments: &[String]) -> Option<Result<Command, AllocError>>
     ensures { Parses result (spec.apply_command (map string_bytes arguments.now)) }
 {
@@ -255,7 +254,7 @@ pub(super) fn parse(alloc: Global, arguments: &[String]) -> Option<Result<Comman
     }
 }
 
-// The command whose edits are these words, of which there is one at least.
+// Parses the words of the edits, at least one.
 fn parse_edits(
     alloc: Global,
     form: ApplyForm,
@@ -287,7 +286,7 @@ impl FromWord for DiskEdit {
     }
 }
 
-// The two numbers of a word, if they are these: before its colon, and after it.
+// Parses the two numbers of a word, before and after its first colon.
 fn two_numbers(numbers: &str) -> Option<(u64, u64)>
     ensures { result ≡ spec.two_numbers numbers.now }
 {
@@ -295,7 +294,7 @@ fn two_numbers(numbers: &str) -> Option<(u64, u64)>
     Some((any_number(first)?, any_number(second)?))
 }
 
-// The edit that maps an offset to a cluster.
+// Parses an edit that maps a cluster: its offset and the host cluster.
 fn map_of(numbers: &str) -> Option<DiskEdit>
     ensures { result ≡ spec.map_of numbers.now }
 {
@@ -306,7 +305,7 @@ fn map_of(numbers: &str) -> Option<DiskEdit>
     }))
 }
 
-// The edit that makes zeros from an offset on.
+// Parses an edit that makes zeros: its offset and length.
 fn zero_of(numbers: &str, keep_allocation: bool) -> Option<DiskEdit>
     ensures { result ≡ spec.zero_of keep_allocation numbers.now }
 {
@@ -318,7 +317,7 @@ fn zero_of(numbers: &str, keep_allocation: bool) -> Option<DiskEdit>
     }))
 }
 
-// The edit that takes data away from an offset on: of one cluster, where no length is said.
+// Parses a discard: its offset, and its length or else one cluster.
 fn discard_of(numbers: &str) -> Option<DiskEdit>
     ensures { result ≡ spec.discard_of numbers.now }
 {
@@ -333,7 +332,7 @@ fn discard_of(numbers: &str) -> Option<DiskEdit>
     }))
 }
 
-// The number that a word says, by decimal digits, or by hexadecimal ones after `0x`.
+// Parses decimal digits, or hexadecimal ones after `0x`.
 fn any_number(word: &str) -> Option<u64>
     ensures { result ≡ spec.any_number word.now }
 {
@@ -343,12 +342,12 @@ fn any_number(word: &str) -> Option<u64>
     }
 }
 
-// The number that 1 to 16 hexadecimal digits say. There is no sign.
+// Parses 1 to 16 hexadecimal digits, without a sign.
 #[tactic(auto, using(crate::proofs::CommandsLemmas::hexadecimal_of_parsed))]
 fn hexadecimal(digits: &str) -> Option<u64>
     ensures { result ≡ spec.hexadecimal digits.now }
 {
-    // `from_str_radix` takes a plus in front.
+    // `from_str_radix` accepts a leading plus.
     if digits.len() > 16 || digits.starts_with('+') {
         return None;
     }

@@ -14,11 +14,11 @@ use qcow2_metadata::Header;
 use std::alloc::{AllocError, Global};
 use std::io::Write;
 
-/// Prints what the cluster of a guest offset reads as, in an image with this header. The size of the guest's
-/// disk isn't looked at.
+/// Prints what the cluster of a guest offset reads as, in an image with this header. The offset may be past
+/// the disk's end.
 ///
-/// Returns the fault of the L1 table or the L2 table, whichever is refused first, before the line; a failed
-/// write to `out` is the storage fault. Changes no byte of the image.
+/// Returns the fault of the L1 table, or else of the L2 table, before the line; a failed write to `out` is
+/// the storage fault. Changes no byte of the image.
 pub fn print_mapping_at<S: Storage, O: Write>(
     alloc: Global,
     image: &mut S,
@@ -38,7 +38,7 @@ pub fn print_mapping_at<S: Storage, O: Write>(
     print(line.as_bytes(), out)
 }
 
-/// What the words of the command `at` ask for.
+/// Parses the arguments of the command `at`.
 pub(super) fn parse(arguments: &[String]) -> Option<Result<Command, AllocError>>
     ensures { Parses result (at_command (map string_bytes arguments.now)) }
 {

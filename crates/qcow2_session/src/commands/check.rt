@@ -1,4 +1,4 @@
-//! The command `check`: whether an image's counters and flags are what its tables say.
+//! The command `check`: compares refcounts and copied flags with the references, and repairs them.
 
 ghost use Rattle.std.specs.Prelude.{◌≡◌, IfOk, IsErrOf, false, flat_map, map, string_bytes};
 ghost use Rattle.qcow2_base.specs.Storage.{OnImage, ReadsFor};
@@ -34,24 +34,25 @@ mod json;
 mod lines;
 mod runs;
 
-/// What a check prints, and whether it repairs the image first.
+/// The form of a check's output, and whether it repairs the image first.
 #[derive(Drop)]
 pub enum CheckForm {
     /// A line for each thing that is wrong, for people.
     Text,
-    /// One object of numbers in JSON, as `qemu-img check --output=json` prints it.
+    /// One JSON object of numbers, as `qemu-img check --output=json` prints it.
     Json { file_name: FileName },
-    /// Counters and flags are made right, and then what is left is printed in lines.
+    /// Repairs refcounts and copied flags, and then prints what is still wrong, in lines.
     Repair,
 }
 
-/// Prints what is wrong with the counters and flags of an image with this header, and returns what is to be
-/// thought of it. First come the clusters whose counter isn't their number of uses, or whose uses exclude
-/// each other: a line for each run of neighbours with the same numbers. Then come the wrong flags, then an L1
-/// table that is too short for the disk, and last the totals, or that the image is consistent.
+/// Prints what is wrong with the refcounts and copied flags of an image with this header, and returns the
+/// verdict. First come clusters whose refcount isn't their number of references, or whose references
+/// exclude each other: for each run of neighbours with the same numbers a line of each kind that applies.
+/// Then come wrong flags, then an L1 table that is too short for the disk, and last the totals, or that the
+/// image is consistent.
 ///
-/// Returns the fault of `Findings::new` before any line. A fault after a line is 34 or 35. A failed write to
-/// `out` is the storage fault. Changes no byte of the image.
+/// Returns the fault of `Findings::new` before any line. A fault after a line is 34 or 35. A failed write
+/// to `out` is the storage fault. Changes no byte of the image.
 pub fn check_image<S: Storage, O: Write>(
     alloc: Global,
     image: &mut S,
@@ -66,10 +67,10 @@ pub fn check_image<S: Storage, O: Write>(
     print_report(findings, image, header, out)
 }
 
-/// Prints what a check finds of an image with this header as one object in JSON, with the name of its file,
-/// and returns what is to be thought of it. Numbers that are 0 are left out, but for that of errors.
+/// Prints the results of a check of an image with this header as one JSON object, with the name of its
+/// file, and returns the verdict. Leaves out numbers that are 0, except `check-errors`.
 ///
-/// Returns the fault of `Findings::new`, or 34 or 35, before anything is printed. A failed write to `out` is
+/// Returns the fault of `Findings::new`, or 34 or 35, before it prints anything. A failed write to `out` is
 /// the storage fault. Changes no byte of the image.
 pub fn check_image_in_json<S: Storage, O: Write>(
     alloc: Global,
@@ -92,11 +93,11 @@ pub fn check_image_in_json<S: Storage, O: Write>(
     Ok(account.totals.verdict(header))
 }
 
-/// Makes the counters and flags of an image with this header right, as `repair_image` does, and then prints
-/// what `check_image` finds in what is left, and returns its verdict.
+/// Repairs the refcounts and copied flags of an image with this header, as `repair_image` does. Then prints
+/// what `check_image` still finds, and returns its verdict.
 ///
-/// Returns the fault of `repair_image` before any line; what that leaves is said there. A repaired image can
-/// be checked, so a fault after that is 34 or 35, and leaves the image repaired.
+/// Returns the fault of `repair_image` before any line; `repair_image` says what that leaves. A repaired
+/// image can be checked, so a later fault is 34 or 35, and the image stays repaired.
 pub fn repair_and_check_image<S: Device, O: Write>(
     alloc: Global,
     image: &mut S,
@@ -112,7 +113,7 @@ pub fn repair_and_check_image<S: Device, O: Write>(
     check_image(alloc, image, &header, out)
 }
 
-/// Checks an image with this header, in a form, and returns what is to be thought of it.
+/// Checks an image with this header in one of the forms, and returns the verdict.
 pub(super) fn check_in_form<S: Device, O: Write>(
     alloc: Global,
     image: &mut S,
@@ -136,7 +137,7 @@ pub(super) fn check_in_form<S: Device, O: Write>(
     }
 }
 
-/// What the name of an image and the words after it ask for with the command `check`.
+/// Parses the arguments of the command `check`. `json` takes the name of the image too.
 pub(super) fn parse(
     alloc: Global,
     image: &str,
@@ -161,7 +162,7 @@ pub(super) fn parse(
     }
 }
 
-// Prints the report on the image that a reader is at the start of, and returns its verdict.
+// Prints the report of a reader at the start of an image's findings, and returns the verdict.
 fn print_report<S: Storage, O: Write>(
     findings: Findings<'_>,
     image: &mut S,
@@ -194,7 +195,7 @@ fn print_end<O: Write>(totals: &Totals, header: &Header, out: &mut O) -> Result<
     Ok(totals.verdict(header))
 }
 
-// Prints the runs that a reader comes to yet, and returns how many clusters of each kind they have.
+// Prints the runs that a reader has left, and returns the totals of their clusters.
 fn print_runs<S: Storage, O: Write>(
     runs: &mut FindingRuns<'_>,
     image: &mut S,
@@ -216,7 +217,7 @@ fn print_runs<S: Storage, O: Write>(
     Ok(totals)
 }
 
-// Prints the wrong flags that a reader comes to yet, and returns totals with theirs.
+// Prints the wrong flags that a reader has left, and returns the totals with these.
 fn print_flags<S: Storage, O: Write>(
     flags: &mut Flags<'_>,
     image: &mut S,

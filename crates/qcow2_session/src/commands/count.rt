@@ -1,4 +1,4 @@
-//! The command `count`: steps of a refcount block's counters.
+//! The command `count`: steps refcounts of one refcount block.
 
 ghost use Rattle.std.specs.Prelude.{map, string_bytes};
 ghost use Rattle.qcow2_metadata.specs.Refblock.{block_geometry_of, block_layout};
@@ -17,12 +17,12 @@ use qcow2_metadata::laws::every_header_is_valid;
 use std::alloc::{AllocError, Global};
 use std::io::Write;
 
-/// Makes steps of the counters of the refcount block that begins with a cluster of an image with this header.
-/// Then prints for each `ok` and the number before it, or `refused`.
+/// Steps refcounts of the refcount block at a cluster, in an image with this header. Then prints for each
+/// step `ok` and the refcount before it, or `refused`.
 ///
-/// Returns the fault of the block's place or of the first step whose index is past the block's end before any
-/// line, and has changed no byte then. A failed write to `out` is the storage fault: the block is written by
-/// then. After a storage fault of the image some pieces of the block may be written, or all.
+/// Returns the fault of the block's place, or of the first step whose index is past the block's end, before
+/// any line and without changing a byte. A failed write to `out` is the storage fault: the block is written
+/// by then. After a storage fault of the image the block may be partly or wholly written.
 pub fn count_references<S: Storage, O: Write>(
     alloc: Global,
     image: &mut S,
@@ -35,13 +35,13 @@ pub fn count_references<S: Storage, O: Write>(
         (block_layout (block_geometry_of header.now)) (end_of_steps cluster steps.now header.now) }
     ensures last { PrintsLast (run_over S.state O.contents result image.old image.new out.old out.new) }
 {
-    // Which bytes counters have is known of valid headers.
+    // The proof of which bytes a refcount has needs a valid header.
     every_header_is_valid(header);
     let replies = step_image(alloc, image, header, cluster, steps)?;
     print_lines(replies.as_slice(), out)
 }
 
-// The same, and waits until the steps are on the device before it prints.
+// Does the same, and waits until the steps are on the device before it prints.
 pub(super) fn count_and_wait<S: Device, O: Write>(
     alloc: Global,
     image: &mut S,
@@ -54,14 +54,14 @@ pub(super) fn count_and_wait<S: Device, O: Write>(
         (block_layout (block_geometry_of header.now)) (end_of_steps cluster steps.now header.now) }
     ensures last { PrintsLast (run_over S.state O.contents result image.old image.new out.old out.new) }
 {
-    // Which bytes counters have is known of valid headers.
+    // The proof of which bytes a refcount has needs a valid header.
     every_header_is_valid(header);
     let replies = step_image(alloc, image, header, cluster, steps)?;
     image.sync()?;
     print_lines(replies.as_slice(), out)
 }
 
-/// What came of a step.
+/// The result of a step.
 impl ToLine for StepReply {
     ghost line = { reply_line };
 
@@ -79,7 +79,7 @@ impl ToLine for StepReply {
     }
 }
 
-/// What the words of the command `count` ask for.
+/// Parses the arguments of the command `count`.
 pub(super) fn parse(alloc: Global, arguments: &[String]) -> Option<Result<Command, AllocError>>
     ensures { Parses result (count_command (map string_bytes arguments.now)) }
 {

@@ -1,4 +1,4 @@
-//! The command `edit`: edits of an L2 table.
+//! The command `edit`: edits one L2 table.
 
 ghost use Rattle.std.specs.Prelude.{◌≡◌, ◌++◌, flat_map, map, string_bytes};
 ghost use Rattle.qcow2_base.specs.Storage.{OnImage, OnlyReads};
@@ -20,13 +20,13 @@ use qcow2_metadata::{ClustersToFreeEntry, Header};
 use std::alloc::{AllocError, Global};
 use std::io::Write;
 
-/// Makes edits of the L2 table that an L1 entry names, in an image with this header. Then prints the clusters
-/// that lost a reference, and those that gained one.
+/// Edits the L2 table that an L1 entry names, in an image with this header. Then prints the clusters that
+/// lost a reference, and those that gained one.
 ///
-/// Returns the fault of the L1 table, 23 where the L1 entry names no table, the fault of the L2 table or of
-/// the first edit that doesn't fit before any line, and has changed no byte then. A failed write to `out` is
-/// the storage fault: the table is written by then. After a storage fault of the image some pieces of the
-/// table may be written, or all.
+/// Returns the fault of the L1 table, 23 if the L1 entry names no table, the fault of the L2 table, or that
+/// of the first edit that doesn't fit, before any line and without changing a byte. A failed write to `out`
+/// is the storage fault: the table is written by then. After a storage fault of the image the table may be
+/// partly or wholly written.
 pub fn edit_entries<S: Storage, O: Write>(
     alloc: Global,
     image: &mut S,
@@ -44,7 +44,7 @@ pub fn edit_entries<S: Storage, O: Write>(
     print_outcome(&outcome, out)
 }
 
-// The same, and waits until the edits are on the device before it prints.
+// Does the same, and waits until the edits are on the device before it prints.
 pub(super) fn edit_and_wait<S: Device, O: Write>(
     alloc: Global,
     image: &mut S,
@@ -63,7 +63,7 @@ pub(super) fn edit_and_wait<S: Device, O: Write>(
     print_outcome(&outcome, out)
 }
 
-// The cluster that the L2 table of an L1 entry begins with.
+// Returns the cluster of the L2 table that an L1 entry names.
 fn table_of_entry<S: Storage>(
     alloc: Global,
     image: &mut S,
@@ -116,7 +116,7 @@ impl ToLine for HostCluster {
     }
 }
 
-/// What the words of the command `edit` ask for.
+/// Parses the arguments of the command `edit`.
 pub(super) fn parse(alloc: Global, arguments: &[String]) -> Option<Result<Command, AllocError>>
     ensures { Parses result (edit_command (map string_bytes arguments.now)) }
 {
@@ -153,7 +153,7 @@ impl FromWord for Edit {
     }
 }
 
-// The edit that maps by the numbers of an index and a host cluster, if they are these.
+// Parses an edit that maps a cluster: its index and the host cluster.
 fn map_edit_of(numbers: &str) -> Option<Edit>
     ensures { result ≡ map_edit_of (parts_of numbers.now) }
 {

@@ -1,4 +1,4 @@
-//! The lines of an L2 table's entries, which the commands `l2` and `list` print.
+//! The entries of an L2 table in lines, for the commands `l2` and `list`.
 
 ghost use Rattle.std.specs.Prelude.{◌≡◌, ◌-◌, ◌*◌, ◌^◌, ◌<◌, ◌≤◌, ◌++◌, length};
 ghost use Rattle.qcow2_base.specs.Format.{most_l1_entries};
@@ -13,16 +13,15 @@ use qcow2_base::{Fault, GuestCluster};
 use qcow2_metadata::{L2Mapping, L2Table, Table};
 use std::io::Write;
 
-// What the line of an entry begins with: the number of its guest cluster, which is the entry's index in the
-// table of L1 entry 0, or its guest offset.
+// The label of an entry's line: the number of its guest cluster, which is the entry's index in the table of
+// L1 entry 0, or its guest offset.
 #[derive(Clone, Copy)]
 pub(super) enum Label {
     Index,
     Offset,
 }
 
-/// Prints the lines of the L2 table of the L1 entry at an index, one for each entry that isn't left to the
-/// backing file.
+/// Prints a line for each entry of the L2 table of an L1 index, except those left to the backing file.
 #[tactic(auto, using(crate::proofs::CommandsLemmas::table_printed))]
 pub(super) fn print_entries<O: Write>(
     table: &L2Table,
@@ -45,8 +44,8 @@ pub(super) fn print_entries<O: Write>(
     Ok(())
 }
 
-// Prints the line of the entry of a guest cluster: its label, a space, and its mapping. An entry that is
-// left to the backing file has no line. It is put together in a line whose bytes no longer matter.
+// Prints the line of a guest cluster's entry: its label, a space, and its mapping. An entry left to the
+// backing file has no line. Overwrites `line`.
 fn print_entry<O: Write>(
     line: &mut LineBuffer,
     guest_cluster: GuestCluster,

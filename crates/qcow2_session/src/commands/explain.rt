@@ -1,4 +1,4 @@
-//! The command `explain` with an image: where in it a fault is.
+//! The command `explain` with an image: shows where in it a fault is.
 
 ghost use Rattle.std.specs.Prelude.{◌≡◌, ◌++◌, ℕ, List, IfOk, IfSome, option_map, string_bytes};
 ghost use Rattle.qcow2_session.specs.Commands.Help.{text_by_number};
@@ -10,7 +10,7 @@ use qcow2_explain::fault_lines;
 use qcow2_help::fault_help;
 use std::rt::Files;
 
-/// A fault whose place in an image words ask for.
+/// A fault, and the image in which to find its place.
 #[derive(Clone, Copy)]
 pub struct Question<'a> {
     fault: Fault,
@@ -19,7 +19,7 @@ pub struct Question<'a> {
 }
 
 impl<'a> Question<'a> {
-    /// The question about the fault that a word names by its number, and a path.
+    /// Makes the question from a fault's number and the path of an image.
     pub(super) fn of(word: &str, path: &'a str) -> Option<Question<'a>>
         ensures text { option_map (λ question. question.text.now) result
             ≡ text_by_number (word_number word.now) }
@@ -30,7 +30,7 @@ impl<'a> Question<'a> {
         Some(Question { fault, text, path })
     }
 
-    /// The text on the fault, and then lines on where it is in the image.
+    /// Returns the text on the fault, and then lines on where in the image it is.
     pub(super) fn answer<R: Files + AllocGlobal>(&self, rt: &R) -> Result<String, Fault>
         ensures { IfOk result (λ answer. (lines : List ℕ)
             × (string_bytes answer ≡ self.now.text.now ++ lines)) }

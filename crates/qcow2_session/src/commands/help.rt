@@ -1,4 +1,4 @@
-//! Texts that words ask for: those of `help`, `explain` and `version`.
+//! The texts of `help`, `explain` and `version`.
 
 ghost use Rattle.std.specs.Prelude.{◌≡◌, map, option_map, string_bytes};
 ghost use Rattle.qcow2_help.specs.CommandTexts.{version_text};
@@ -12,17 +12,17 @@ use qcow2_base::Fault;
 use qcow2_help::{command_help, commands_help, fault_help, version};
 use std::io::Write;
 
-/// A text that words ask for.
+/// A text of `help`, `explain` or `version`.
 #[derive(Clone, Copy)]
 pub enum HelpText<'a> {
-    /// This one.
+    /// This text.
     Whole(&'a str),
-    /// What must hold by each fault, a line each.
+    /// The first line of each fault's text: what must hold.
     Rules,
 }
 
 impl HelpText<'_> {
-    /// Prints it.
+    /// Prints the text.
     pub(super) fn print<O: Write>(self, out: &mut O) -> Result<(), Fault>
         ensures { PrintsText result (O.contents out.old) (O.contents out.new) (text_of self.entry) }
     {
@@ -43,8 +43,8 @@ pub(super) fn ask_for_help(name: &str, arguments: &[String]) -> bool
     }
 }
 
-/// Whether a word alone after a command's name asks for its help. Some commands take any word for an image's
-/// name.
+/// Whether a single word after a command's name asks for its help. Some commands take any word for an
+/// image's name.
 pub(super) fn asks_for_help(name: &str, word: &str) -> bool
     ensures { result ≡ asks_for_help name.now word.now }
 {
@@ -59,7 +59,7 @@ fn takes_any_name(name: &str) -> bool
     matches!(name, "info" | "list" | "at" | "edit" | "count" | "l2")
 }
 
-/// What the words after `help` ask for.
+/// Returns the text that the words after `help` ask for.
 pub(super) fn parse_help<'a>(arguments: &[String]) -> Option<HelpText<'a>>
     ensures { option_map text_of result ≡ help_text (map string_bytes arguments.now) }
 {
@@ -70,7 +70,7 @@ pub(super) fn parse_help<'a>(arguments: &[String]) -> Option<HelpText<'a>>
     }
 }
 
-/// The text on the fault that a word names by its number.
+/// Returns the text on the fault whose number a word gives.
 pub(super) fn parse_fault<'a>(word: &str) -> Option<HelpText<'a>>
     ensures { option_map text_of result ≡ text_by_number (word_number word.now) }
 {
@@ -78,7 +78,7 @@ pub(super) fn parse_fault<'a>(word: &str) -> Option<HelpText<'a>>
     Some(HelpText::Whole(fault_help(&fault)))
 }
 
-/// What the words after `version` ask for.
+/// Returns the text that the words after `version` ask for.
 pub(super) fn parse_version<'a>(arguments: &[String]) -> Option<HelpText<'a>>
     ensures { option_map text_of result ≡ text_alone version_text (map string_bytes arguments.now) }
 {
@@ -88,7 +88,7 @@ pub(super) fn parse_version<'a>(arguments: &[String]) -> Option<HelpText<'a>>
     }
 }
 
-// Prints what must hold by each fault.
+// Prints the first line of the text on each fault.
 fn print_rules<O: Write>(out: &mut O) -> Result<(), Fault>
     ensures { PrintsText result (O.contents out.old) (O.contents out.new) all_rules }
 {
@@ -107,7 +107,7 @@ fn print_rule<O: Write>(fault: &Fault, out: &mut O) -> Result<(), Fault>
     print(b"\n", out)
 }
 
-// A text up to its first newline.
+// Returns a text up to its first newline.
 fn first_line(text: &str) -> &str
     ensures { result.now ≡ first_line_of text.now }
 {

@@ -36,7 +36,7 @@ fn print_header<O: Write>(header: &Header, out: &mut Output<O>)
     print_name("data-file", header.external_data_filename(), out);
 }
 
-// The version, and how large clusters, the guest's disk and refcounts are.
+// The version, and the sizes of clusters, disk and refcounts.
 fn sizes(header: &Header) -> LineBuffer
     ensures { result ≡ size_lines header.now }
 {
@@ -53,7 +53,7 @@ fn sizes(header: &Header) -> LineBuffer
     line
 }
 
-// Where the L1 table and the refcount table lie.
+// The places of the L1 table and the refcount table.
 fn places(header: &Header) -> LineBuffer
     ensures { result ≡ place_lines header.now }
 {
@@ -73,7 +73,7 @@ fn places(header: &Header) -> LineBuffer
     line
 }
 
-// Puts the offset of a table in front of a line, and how many entries or clusters it has.
+// Puts a table's offset and its number of entries or clusters in front of a line.
 fn prepend_place(line: &mut LineBuffer, offset: HostOffset, count: u64)
     requires { length line.old ≤ 100 }
     ensures text { line.new ≡ place_line offset.0 count ++ line.old }
@@ -85,7 +85,7 @@ fn prepend_place(line: &mut LineBuffer, offset: HostOffset, count: u64)
     line.prepend_offset(offset.0);
 }
 
-// Whether guest data lies in a file of its own.
+// Whether guest data is in an external data file.
 fn external(header: &Header) -> LineBuffer
     ensures { result ≡ external_line header.now }
 {
@@ -98,7 +98,7 @@ fn external(header: &Header) -> LineBuffer
     line
 }
 
-// Prints the line of a name, or that there is none.
+// Prints the line of a name, or `none`.
 fn print_name<O: Write>(label: &str, name: Option<&String>, out: &mut Output<O>)
     ensures text { Gets O.contents out.old out.new
         (name_line label.now (option_map (λ name. string_bytes name.now) name.entry)) }
@@ -111,7 +111,7 @@ fn print_name<O: Write>(label: &str, name: Option<&String>, out: &mut Output<O>)
     }
 }
 
-// Prints how many bytes a text has, and these, each after a space.
+// Prints the length of a text in bytes, and the text, each after a space.
 fn print_text<O: Write>(text: &str, out: &mut Output<O>)
     ensures text { Gets O.contents out.old out.new
         (codes " " ++ decimal (length text.now) ++ codes " " ++ text.now ++ codes "\n") }

@@ -1,4 +1,4 @@
-//! The command `l2`: what one L2 table maps.
+//! The command `l2`: lists one L2 table.
 
 ghost use Rattle.std.specs.Prelude.{◌≡◌, ◌⊎◌, false, map, string_bytes, Err, IfSome};
 ghost use Rattle.qcow2_base.specs.declared.fault.Fault.TheVariants.{NoMemory};
@@ -21,10 +21,10 @@ use std::alloc::{AllocError, Global};
 use std::io::Write;
 use std::marker::Model;
 
-/// The refcount order of the header that the command reads a table with. Nothing depends on it.
+/// The refcount order of the header with which the command reads a table. Nothing depends on it.
 const REFCOUNT_ORDER: u32 = 4;
 
-/// A number of cluster bits, from 9 to 21.
+/// The cluster bits of a command line, from 9 to 21.
 #[derive(Clone, Copy)]
 pub struct ClusterBits {
     bits: u32,
@@ -46,7 +46,7 @@ impl Model for ClusterBits {
 impl ClusterBits {
     ghost use Rattle.qcow2_base.specs.Types.{IsClusterBits};
 
-    /// The number.
+    /// Returns the number.
     pub fn get(self) -> u32
         ensures value { result ≡ self }
         ensures range { IsClusterBits result }
@@ -54,7 +54,7 @@ impl ClusterBits {
         self.bits
     }
 
-    // The number that a word says, if it is one of cluster bits.
+    // Parses a number from 9 to 21.
     fn parse(word: &str) -> Option<ClusterBits>
         ensures { result ≡ cluster_bits_of word.now }
     {
@@ -65,11 +65,11 @@ impl ClusterBits {
     }
 }
 
-/// Prints what the L2 table that begins with a cluster maps: for each entry that isn't left to the
-/// backing file its index, a space, and its mapping. The image's own header isn't looked at.
+/// Lists the L2 table at a cluster: for each entry, except those left to the backing file, its index, a
+/// space, and its mapping. Doesn't look at the image's own header.
 ///
-/// Returns the fault of the table's place or of its first bad entry before any line; a failed write
-/// to `out` is the storage fault. Changes no byte of the image.
+/// Returns the fault of the table's place or of its first bad entry before any line; a failed write to
+/// `out` is the storage fault. Changes no byte of the image.
 pub fn list_l2_table<S: Storage, O: Write>(
     alloc: Global,
     image: &mut S,
@@ -90,7 +90,7 @@ pub fn list_l2_table<S: Storage, O: Write>(
     print_l2_table(alloc, image, &header, cluster, out)
 }
 
-// The header that the command reads a table with.
+// Makes the header with which the command reads a table.
 pub(super) fn new_header(alloc: Global, cluster_bits: u32) -> Result<Header, Fault>
     requires { IsClusterBits cluster_bits }
     ensures { IsNewHeader cluster_bits result }
@@ -98,7 +98,7 @@ pub(super) fn new_header(alloc: Global, cluster_bits: u32) -> Result<Header, Fau
     Header::new(alloc, cluster_bits, REFCOUNT_ORDER, None, None, None)
 }
 
-// Prints what the L2 table that begins with a cluster maps, by the cluster bits of a header.
+// Lists the L2 table at a cluster, with the cluster bits of a header.
 pub(super) fn print_l2_table<S: Storage, O: Write>(
     alloc: Global,
     image: &mut S,
@@ -117,7 +117,7 @@ pub(super) fn print_l2_table<S: Storage, O: Write>(
     print_entries(&table, 0, Label::Index, out)
 }
 
-/// What the words of the command `l2` ask for.
+/// Parses the arguments of the command `l2`.
 pub(super) fn parse(arguments: &[String]) -> Option<Result<Command, AllocError>>
     ensures { Parses result (l2_command (map string_bytes arguments.now)) }
 {

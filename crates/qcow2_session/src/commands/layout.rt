@@ -1,4 +1,4 @@
-//! The command `layout`: what each host cluster of an image is, run by run or as a picture.
+//! The command `layout`: what each host cluster of an image is, in runs or as a picture.
 
 ghost use Rattle.std.specs.Prelude.{◌≡◌, ◌+◌, ◌≤◌, ◌++◌, IsErrOf, length, map, string_bytes};
 ghost use Rattle.qcow2_base.specs.Storage.{OnImage, ReadsFor};
@@ -22,25 +22,25 @@ mod picture;
 
 use picture::print_picture;
 
-/// How a layout is shown.
+/// The form of a layout's output.
 #[derive(Clone, Copy, Debug, PartialEq, Eq)]
 pub enum LayoutForm {
     /// A line for each run.
     Lines,
-    /// A picture, as a file in SVG.
+    /// An SVG picture.
     Svg,
 }
 
-/// Prints what each host cluster of an image with this header is, from cluster 0 up to the last one that is
-/// in use, in runs: a run's first cluster, how many it has, and what they are. Guest data has the guest
-/// offset of the first, and goes on in the guest's disk as in the image. Where a cluster has several uses,
-/// that of the header, a table or a block is printed, or else the one of the lowest guest offset.
+/// Prints what each host cluster of an image with this header is, from cluster 0 to the last that isn't
+/// free, in runs: a run's first cluster, its number of clusters, and what they are. For guest data that has
+/// the guest offset of the first cluster; the next ones follow on the disk as in the image. A cluster with
+/// several references is printed as the header, a table or a block, or else with the lowest guest offset.
 ///
-/// As a picture it has at most 4096 squares, in rows of 64. Each stands for as many clusters, a power of two,
-/// and has the colour of the most severe content in them.
+/// A picture has at most 4096 squares, in rows of 64. Each stands for the same number of clusters, a power
+/// of two, and has the colour of the most severe content in them.
 ///
-/// Returns the fault of `Layout::new` before any line. A fault after a line is 34 or 35, and comes before all
-/// of a picture. A failed write to `out` is the storage fault. Changes no byte of the image.
+/// Returns the fault of `Layout::new` before any line. A fault after a line is 34 or 35; one of a picture
+/// comes before any output. A failed write to `out` is the storage fault. Changes no byte of the image.
 pub fn print_layout<S: Storage, O: Write>(
     alloc: Global,
     image: &mut S,
@@ -60,7 +60,7 @@ pub fn print_layout<S: Storage, O: Write>(
     }
 }
 
-// Prints the lines of all runs.
+// Prints a line for each run.
 fn print_in_lines<S: Storage, O: Write>(
     alloc: Global,
     image: &mut S,
@@ -75,7 +75,7 @@ fn print_in_lines<S: Storage, O: Write>(
     print_runs(&mut layout, image, out)
 }
 
-// Prints all runs of the image that a reader is at the start of.
+// Prints all runs of a reader that is at their start.
 fn print_runs<S: Storage, O: Write>(
     layout: &mut Layout<'_>,
     image: &mut S,
@@ -106,7 +106,7 @@ impl ToLine for Run {
     }
 }
 
-// Puts what a line says of a part in front of it.
+// Puts the text of a part in front of a line.
 fn prepend_part(line: &mut LineBuffer, part: Part)
     requires { length line.old ≤ 100 }
     ensures text { line.new ≡ part_text part ++ line.old }
@@ -128,7 +128,7 @@ fn prepend_part(line: &mut LineBuffer, part: Part)
     }
 }
 
-/// What the words of the command `layout` ask for.
+/// Parses the arguments of the command `layout`.
 pub(super) fn parse(arguments: &[String]) -> Option<Result<Command, AllocError>>
     ensures { Parses result (layout_command (map string_bytes arguments.now)) }
 {

@@ -1,4 +1,4 @@
-//! The command `list`: what all L2 tables of an image map.
+//! The command `list`: lists all L2 tables of an image.
 
 ghost use Rattle.std.specs.Prelude.{IsErrOf};
 ghost use Rattle.qcow2_base.specs.Storage.{ReadsFor};
@@ -13,13 +13,12 @@ use qcow2_metadata::Header;
 use std::alloc::Global;
 use std::io::Write;
 
-/// Prints what all L2 tables of an image with this header map, in the order of the L1 table: for each entry
-/// that isn't left to the backing file its guest offset, a space, and its mapping. One L2 table is in memory
+/// Lists all L2 tables of an image with this header, in the order of the L1 table: for each entry, except
+/// those left to the backing file, its guest offset, a space, and its mapping. Holds one L2 table in memory
 /// at a time.
 ///
-/// Returns the fault of the L1 table before any line. An L2 table that is refused ends the list: the lines of
-/// the tables before it stay, and it has none. A failed write to `out` is the storage fault. Changes no byte
-/// of the image.
+/// Returns the fault of the L1 table before any line. A refused L2 table ends the list after the lines of
+/// the tables before it. A failed write to `out` is the storage fault. Changes no byte of the image.
 pub fn list_tables<S: Storage, O: Write>(
     alloc: Global,
     image: &mut S,
@@ -34,7 +33,7 @@ pub fn list_tables<S: Storage, O: Write>(
     print_tables(&mut tables, image, out)
 }
 
-// Prints what the L2 tables map that a walk comes to yet.
+// Lists the L2 tables that a walk has left.
 fn print_tables<S: Storage, O: Write>(
     tables: &mut L2Tables<'_>,
     image: &mut S,

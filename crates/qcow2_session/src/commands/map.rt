@@ -1,4 +1,4 @@
-//! The command `map`: what the guest's disk reads as, extent after extent.
+//! The command `map`: what the guest's disk reads as, extent by extent.
 
 ghost use Rattle.std.specs.Prelude.{◌≡◌, ◌+◌, ◌≤◌, ◌++◌, IsErrOf, length, map, string_bytes};
 ghost use Rattle.qcow2_base.specs.Storage.{OnImage, ReadsFor};
@@ -16,17 +16,17 @@ use qcow2_metadata::Header;
 use std::alloc::{AllocError, Global};
 use std::io::Write;
 
-/// How extents are printed.
+/// The format of printed extents.
 #[derive(Clone, Copy, Debug, PartialEq, Eq)]
 pub enum ExtentFormat {
     /// A line for each, for people.
     Lines,
-    /// A list in JSON, as `qemu-img map --output=json` prints it.
+    /// A JSON list, as `qemu-img map --output=json` prints it.
     Json,
 }
 
 impl ExtentFormat {
-    // What stands before the first extent.
+    // The text before the first extent.
     fn opening(self) -> &'static str
         ensures { result.now ≡ opening self }
     {
@@ -36,7 +36,7 @@ impl ExtentFormat {
         }
     }
 
-    // What stands after the last extent.
+    // The text after the last extent.
     fn closing(self) -> &'static str
         ensures { result.now ≡ closing self }
     {
@@ -49,8 +49,8 @@ impl ExtentFormat {
 
 /// Prints the extents of an image with this header, from offset 0 to the disk's size.
 ///
-/// Returns the fault of the L1 table before it prints anything. An L2 table that is refused ends the text:
-/// the extents that are known to end before its range stay. L2 tables past the disk's size aren't read. A
+/// Returns the fault of the L1 table before it prints anything. A refused L2 table ends the output: the
+/// extents that are known to end before its range stay. Doesn't read L2 tables past the disk's size. A
 /// failed write to `out` is the storage fault. Changes no byte of the image.
 pub fn print_extents<S: Storage, O: Write>(
     alloc: Global,
@@ -69,7 +69,7 @@ pub fn print_extents<S: Storage, O: Write>(
     print_text(format.closing(), out)
 }
 
-// Prints the extents from a reader's offset on, up to the disk's size.
+// Prints the extents from a reader's offset to the disk's size.
 fn print_all<S: Storage, O: Write>(
     extents: &mut Extents<'_>,
     image: &mut S,
@@ -94,7 +94,7 @@ fn print_text<O: Write>(text: &str, out: &mut O) -> Result<(), Fault>
     print(text.as_bytes(), out)
 }
 
-// Prints an extent, put together in a line whose bytes no longer matter.
+// Prints an extent. Overwrites `line`.
 #[inline(always)]
 fn print_extent<O: Write>(
     extent: &Extent,
@@ -126,7 +126,7 @@ fn prepend_line(line: &mut LineBuffer, extent: &Extent)
     line.prepend_offset(extent.start.0);
 }
 
-// Puts what a line says of a content in front of it.
+// Puts the text of a content in front of a line.
 fn prepend_content(line: &mut LineBuffer, content: Content)
     requires { length line.old ≤ 110 }
     ensures text { line.new ≡ content_text content ++ line.old }
@@ -147,7 +147,7 @@ fn prepend_content(line: &mut LineBuffer, content: Content)
     }
 }
 
-// Puts an extent of a list in JSON in front of a line.
+// Puts an extent of the JSON list in front of a line.
 fn prepend_row(line: &mut LineBuffer, extent: &Extent)
     requires { length line.old ≤ 10 }
     ensures { line.new ≡ json_row extent.now ++ line.old }
@@ -162,7 +162,7 @@ fn prepend_row(line: &mut LineBuffer, extent: &Extent)
     }
 }
 
-// Puts what JSON says of a content in front of a line.
+// Puts the JSON members of a content, and the closing brace, in front of a line.
 fn prepend_json_content(line: &mut LineBuffer, content: Content)
     requires { length line.old ≤ 10 }
     ensures text { line.new ≡ json_content content ++ line.old }
@@ -195,7 +195,7 @@ fn prepend_json_content(line: &mut LineBuffer, content: Content)
     }
 }
 
-/// What the words of the command `map` ask for.
+/// Parses the arguments of the command `map`.
 pub(super) fn parse(arguments: &[String]) -> Option<Result<Command, AllocError>>
     ensures { Parses result (map_command (map string_bytes arguments.now)) }
 {

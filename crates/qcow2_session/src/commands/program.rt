@@ -1,4 +1,4 @@
-//! Running the program, by what its words ask for.
+//! The whole program: runs a command line.
 
 ghost use Rattle.std.specs.Prelude.{◌≡◌, ◌≢◌, ◌≤◌, ◌↔◌, IfOk, map, string_bytes};
 ghost use Rattle.qcow2_check.specs.declared.verdict.Verdict.TheVariants.{Fine};
@@ -20,8 +20,8 @@ use std::io::Write;
 use std::rt::Files;
 
 /// Runs a command line, the words after the program's name, and returns the program's status, as
-/// `run_request` does for what the words ask for. Where memory runs out for its command the status is 1, the
-/// fault 35 is reported, and nothing else is done.
+/// `run_request` does. If memory for the command runs out, reports fault 35, does nothing else, and returns
+/// 1.
 pub fn run_words<R: Files + ImageFiles + AllocGlobal, O: Write, E: Write>(
     rt: &mut R,
     words: &[String],
@@ -41,15 +41,14 @@ pub fn run_words<R: Files + ImageFiles + AllocGlobal, O: Write, E: Write>(
     }
 }
 
-/// Does what words ask for, and returns the program's status: 0 for success, 1 for a fault and 2 where they
-/// ask for nothing. 3 and 4 are those of `Verdict::status`, for what a command found that is wrong with its
-/// image.
+/// Runs a request, and returns the program's status: 0 for success, 1 for a fault, 2 for wrong words, and 3
+/// or 4, the statuses of `Verdict::status`, if a command finds something wrong with its image.
 ///
-/// What the command finds goes to `out`, where lines before a fault stay. `help`, `explain` and `version`
-/// print a text there, and open no image; `explain` of an image goes on with lines on where in it the fault
-/// is. A fault is the line `qmeta: fault N` on `err`, wrong words are the usage line there. `out` is flushed
-/// after a command that ran, `err` after a line on it. A failed write to `out` is the storage fault; one to
-/// `err` changes nothing. Only a command changes a file, and only that of its image.
+/// The command prints to `out`, where lines before a fault stay. `help`, `explain` and `version` print a
+/// text there, and open no image; `explain` with an image adds lines on where in it the fault is. A fault
+/// prints the line `qmeta: fault N` to `err`, wrong words print the usage line there. `out` is flushed
+/// after a command that ran, `err` after a line. A failed write to `out` is the storage fault; one to `err`
+/// changes nothing. Only a command changes a file, and only its image.
 pub fn run_request<R: Files + ImageFiles + AllocGlobal, O: Write, E: Write>(
     rt: &mut R,
     request: &Request<'_>,
@@ -83,7 +82,7 @@ fn print_text<O: Write>(text: HelpText<'_>, out: &mut O) -> Result<Verdict, Faul
     after_flush(fine(printed), out.flush())
 }
 
-// Prints the text on a fault and where it is in an image, and flushes the output.
+// Prints the text on a fault and its place in an image, and flushes the output.
 fn answer<R: Files + AllocGlobal, O: Write>(
     rt: &R,
     question: &Question<'_>,
@@ -97,7 +96,7 @@ fn answer<R: Files + AllocGlobal, O: Write>(
     after_flush(fine(printed), out.flush())
 }
 
-// The status of what a run came to: that of its verdict, or 1 after its fault is reported.
+// Returns the status of a run: that of its verdict, or 1 after reporting its fault.
 fn status_of<E: Write>(ran: Result<Verdict, Fault>, err: &mut E) -> u8
     ensures status { result ≤ 4 }
     ensures right_words { result ≢ 2 }

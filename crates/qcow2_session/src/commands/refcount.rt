@@ -1,4 +1,4 @@
-//! The command `refcount`: the counters of host clusters.
+//! The command `refcount`: the refcounts of host clusters.
 
 ghost use Rattle.std.specs.Prelude.{◌≡◌, map, string_bytes};
 ghost use Rattle.qcow2_check.specs.Counters.{IsReftableFault};
@@ -16,17 +16,17 @@ use qcow2_metadata::Header;
 use std::alloc::{AllocError, Global};
 use std::io::Write;
 
-/// A host cluster and its counter.
+/// A host cluster and its refcount.
 #[derive(Clone, Copy)]
 pub(super) struct CountedCluster {
     cluster: HostCluster,
     counter: u64,
 }
 
-/// Prints the counter of each of some host clusters, in an image with this header, in their order: the
-/// cluster, a space, and its counter, which is 0 where no block counts the cluster.
+/// Prints the refcounts of host clusters in an image with this header, in the order given: the cluster, a
+/// space, and its refcount, which is 0 if no block counts the cluster.
 ///
-/// Returns the fault of the refcount table, and then 21 where a block that it names would end past 2^56. Each
+/// Returns the fault of the refcount table, and then 21 if a block that it names would end past 2^56. Each
 /// fault comes before any line; a failed write to `out` is the storage fault. Changes no byte of the image.
 pub fn print_counters<S: Storage, O: Write>(
     alloc: Global,
@@ -44,7 +44,7 @@ pub fn print_counters<S: Storage, O: Write>(
     print_lines(counted.as_slice(), out)
 }
 
-// The counters of clusters, each with its cluster.
+// Returns each cluster with its refcount.
 fn counted_clusters<S: Storage>(
     alloc: Global,
     image: &mut S,
@@ -79,7 +79,7 @@ impl ToLine for CountedCluster {
     }
 }
 
-/// What the words of the command `refcount` ask for.
+/// Parses the arguments of the command `refcount`.
 pub(super) fn parse(alloc: Global, arguments: &[String]) -> Option<Result<Command, AllocError>>
     ensures { Parses result (refcount_command (map string_bytes arguments.now)) }
 {

@@ -1,4 +1,4 @@
-//! What stands on standard error: one line, of a fault or of words that are no command.
+//! The line on standard error: a fault, or the usage after wrong words.
 
 ghost use Rattle.std.specs.Prelude.{◌≡◌};
 ghost use Rattle.qcow2_session.specs.Commands.Printing.{AppendsPart};
@@ -8,8 +8,8 @@ use crate::lines::{LineBuffer, write_out};
 use qcow2_base::Fault;
 use std::io::Write;
 
-/// Reports a fault on `err`, and returns the status for it. Where a write fails, a beginning of the line
-/// stands there, perhaps nothing of it. Takes no memory.
+/// Reports a fault on `err`, and returns its status. If a write fails, only a first part of the line is
+/// there, perhaps nothing. Allocates no memory.
 pub fn report_fault<E: Write>(fault: Fault, err: &mut E) -> u8
     ensures status { result ≡ 1 }
     ensures line { AppendsPart (E.contents err.old) (E.contents err.new) (fault_line fault) }
@@ -22,8 +22,7 @@ pub fn report_fault<E: Write>(fault: Fault, err: &mut E) -> u8
     1
 }
 
-/// Writes to `err` how the program is called, as `report_fault` does with a fault, and returns the
-/// status for it.
+/// Writes the usage line to `err`, as `report_fault` writes a fault, and returns the status of wrong words.
 pub(super) fn refuse_words<E: Write>(err: &mut E) -> u8
     ensures status { result ≡ 2 }
     ensures line { AppendsPart (E.contents err.old) (E.contents err.new) usage_line }

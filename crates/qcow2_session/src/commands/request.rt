@@ -1,4 +1,4 @@
-//! What a line of words asks for.
+//! Requests: parsed command lines.
 
 ghost use Rattle.std.specs.Prelude.{◌≡◌, IfOk, IsErr, map, option_map, string_bytes};
 ghost use Rattle.qcow2_session.specs.Commands.Help.{text_by_number, text_of};
@@ -11,21 +11,21 @@ use super::help::{HelpText, ask_for_help, parse_fault, parse_help, parse_version
 use qcow2_help::command_help;
 use std::alloc::{AllocError, Global};
 
-/// What a line of words asks for, the words after the program's name.
+/// A parsed command line: the words after the program's name.
 #[derive(Drop)]
 pub enum Request<'a> {
     /// `help`, `version`, `explain` without an image, or a command's name and a word for help.
     Text(HelpText<'a>),
-    /// `explain N IMAGE`: where in an image a fault is.
+    /// `explain N IMAGE`: the place of a fault in an image.
     Question(Question<'a>),
-    /// A command over the image of a path.
+    /// A command, and the path of its image.
     Command { command: Command, path: &'a str },
-    /// Nothing that the program does.
+    /// Wrong words.
     Nothing,
 }
 
 impl<'a> Request<'a> {
-    /// What words ask for. Fails only where they ask for a command and memory for it runs out.
+    /// Parses a command line. Fails only if it is a command and memory for it runs out.
     pub fn parse(alloc: Global, words: &'a [String]) -> Result<Request<'a>, AllocError>
         ensures parsed { IfOk result (λ request. asked_by request ≡ request_of (map string_bytes words.now)) }
         ensures memory { IsErr result → IsForCommand (request_of (map string_bytes words.now)) }
@@ -40,7 +40,7 @@ impl<'a> Request<'a> {
         Request::parse_named(alloc, name.as_str(), arguments)
     }
 
-    // What a name and the words after it ask for, where these don't ask for help.
+    // Parses a name and the words after it, which don't ask for a command's help.
     fn parse_named(
         alloc: Global,
         name: &str,
@@ -59,7 +59,7 @@ impl<'a> Request<'a> {
         }
     }
 
-    // What a command's name and the words after it ask for.
+    // Parses a command's name and the words after it.
     fn parse_command(
         alloc: Global,
         name: &str,
@@ -81,7 +81,7 @@ impl<'a> Request<'a> {
         }
     }
 
-    // What the words after `explain` ask for.
+    // Parses the words after `explain`.
     fn parse_explain(arguments: &'a [String]) -> Request<'a>
         ensures { asked_by result ≡ explain_request (map string_bytes arguments.now) }
     {
@@ -93,7 +93,7 @@ impl<'a> Request<'a> {
         }
     }
 
-    // A text, if there is one.
+    // The request for a text, if there is one.
     fn for_text(text: Option<HelpText<'a>>) -> Request<'a>
         ensures { asked_by result ≡ or_nothing for_text (option_map text_of text.entry) }
     {
@@ -103,7 +103,7 @@ impl<'a> Request<'a> {
         }
     }
 
-    // The place in the image of a path of the fault that a word names by its number.
+    // The request for the place of a fault, given by its number, in the image at a path.
     fn for_place(fault: &str, path: &'a str) -> Request<'a>
         ensures { asked_by result
             ≡ or_nothing (λ text. for_place text path.now) (text_by_number (word_number fault.now)) }

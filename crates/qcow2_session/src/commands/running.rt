@@ -1,4 +1,4 @@
-//! Running a command over its image.
+//! Runs a command over its image.
 
 ghost use Rattle.std.specs.Prelude.{◌≡◌, ◌⊎◌, ℕ, Err, false, IfErr, IfOk, IfSome, IsErr, MatchResult, OnErr, OnOk, Some};
 ghost use Rattle.std.specs.Io.KnownBytes.{Keeps};
@@ -34,16 +34,17 @@ use std::alloc::Global;
 use std::io;
 use std::io::Write;
 
-/// Opens the image of a path, for writing where the command may change it, runs the command over it, and
-/// closes it. What it prints is flushed, also before a fault. One that reads all tables reads them in pages.
+/// Opens the image at a path, for writing if the command may change it, runs the command, and closes the
+/// image. Flushes what the command prints, also before a fault. A command that reads all tables reads them
+/// in pages.
 ///
-/// Returns 34 where the file can't be opened; 35 where memory runs out for the pages. `apply` returns 41
-/// where the L1 table is too short. Where the data is in the image, it returns 32 and the position of the
-/// first edit that doesn't fit the disk or maps a cluster past the image's end. A regular file and a block
-/// device have an end. After these nothing is printed, and the file is as it was, but for what the load of
-/// the header wrote. Else it returns what `run` does, and 34 where the flush fails. No other file changes,
-/// unless it is the same one. Where `files` say that another program came to the image, 39 comes in place of
-/// 34: a part of what was asked may be done then.
+/// Returns 34 if the file can't be opened, and 35 if memory for the pages runs out. `apply` returns 41 if
+/// the L1 table is too short. Unless the data is in an external data file, it returns 32 and the position
+/// of the first edit that doesn't fit the disk or maps a cluster past the image's end; regular files and
+/// block devices have an end. These faults come before any output, and leave the file unchanged except for
+/// what loading the header wrote. Otherwise returns what `run` does, and 34 if the flush fails. Changes no
+/// other file, unless that is the same one. If `files` report that another program came to the image,
+/// returns 39 instead of 34: the request may be partly done then.
 pub fn run_on_file<R: ImageFiles, O: Write>(
     alloc: Global,
     files: &mut R,
@@ -65,7 +66,7 @@ pub fn run_on_file<R: ImageFiles, O: Write>(
     told
 }
 
-// What a run comes to beside other programs: where one has come to the image, a call failed for that.
+// The result of a run beside other programs: if one has come to the image, the storage fault is 39.
 fn unless_in_use(ran: Result<Verdict, Fault>, is_in_use: bool) -> Result<Verdict, Fault>
     ensures told { result ≡ told_beside is_in_use ran }
     ensures errs { IsErr ran → IsErr result }
@@ -76,7 +77,7 @@ fn unless_in_use(ran: Result<Verdict, Fault>, is_in_use: bool) -> Result<Verdict
     }
 }
 
-// Runs a command over an image in an open file, and returns that file, to be closed.
+// Runs a command over the image in an open file, and returns the file, to be closed.
 fn run_in_file<F: ImageFile, O: Write>(
     alloc: Global,
     mut image: FileStorage<F>,
@@ -110,8 +111,8 @@ fn run_in_file<F: ImageFile, O: Write>(
     }
 }
 
-// Refuses edits of a disk that map clusters past the image's end, if that is known. What doesn't fit the disk
-// is refused with them, by the first.
+// Refuses edits of a disk that don't fit it or map clusters past the image's end, if that is known, by the
+// first such edit.
 fn compare_with_end<S: Device>(
     image: &mut S,
     header: &Header,
@@ -126,9 +127,9 @@ fn compare_with_end<S: Device>(
     }
 }
 
-// Refuses edits of a disk by 41 where the L1 table is too short, and by 32 and the position of the first that
-// doesn't fit the disk or maps a cluster past the image's end. With an external data file the edits are
-// refused later.
+// Refuses edits of a disk: by 41 if the L1 table is too short, and by 32 with the position of the first
+// edit that doesn't fit the disk or maps a cluster past the image's end. With an external data file `apply`
+// refuses all edits later.
 fn refuse_maps_past_end<S: Device>(
     image: &mut S,
     header: &Header,
@@ -172,7 +173,8 @@ fn run_and_flush<S: Device, O: Write>(
     after_flush(ran, out.flush())
 }
 
-/// The result of a run after its output was flushed. The run's own fault comes before that of the flush.
+/// Returns the result of a run once its output was flushed. The run's own fault comes before that of the
+/// flush.
 pub(super) fn after_flush(
     ran: Result<Verdict, Fault>,
     flushed: io::Result<()>,
@@ -187,11 +189,11 @@ pub(super) fn after_flush(
     }
 }
 
-/// Runs a command over an image, and prints to `out` what it finds. The image's header is loaded first,
-/// by who writes to the image for `edit` and `count`; `l2` doesn't look at it. `apply` and `check IMAGE
-/// repair` load it as one who reads. They write to it where the edits or the repair can be made.
+/// Runs a command over an image, and prints its results to `out`. Loads the image's header first, for
+/// writing if the command is `edit` or `count`; `l2` doesn't look at it. `apply` and `check IMAGE repair`
+/// load it for reading, and write once they know that they can make the edits or the repair.
 ///
-/// Returns the fault of the header, or what the command's own function returns: `Fine` where that returns no
+/// Returns the fault of the header, or what the command's own function returns: `Fine` if that returns no
 /// verdict.
 #[tactic(auto, using(crate::proofs::RunningLemmas::runs))]
 pub fn run<S: Device, O: Write>(
@@ -261,7 +263,7 @@ fn run_with<S: Device, O: Write>(
     }
 }
 
-/// The result of a run whose command's function returns no verdict: `Fine` unless it failed.
+/// Returns `Fine` for a command whose function returns no verdict, or its fault.
 pub(super) fn fine(ran: Result<(), Fault>) -> Result<Verdict, Fault>
     ensures answer { result ≡ fine_unless_failed ran }
     ensures verdict { IfOk result (λ verdict. verdict ≡ Fine) }
@@ -269,7 +271,7 @@ pub(super) fn fine(ran: Result<(), Fault>) -> Result<Verdict, Fault>
     ran.map(|()| Verdict::Fine)
 }
 
-// The header that a command works with: a new one of the cluster bits that its words say, or else that of the
+// Returns the header for a command: a new one with the cluster bits of its words, or else that of the
 // image.
 fn find_header<S: Storage>(alloc: Global, image: &mut S, command: &Command) -> Result<Header, Fault>
     ensures { FindsHeader (facts_of command.now) result (S.state image.old) (S.state image.new) }

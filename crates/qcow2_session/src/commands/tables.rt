@@ -21,16 +21,16 @@ use std::alloc::Global;
 use std::io::Write;
 use std::marker::Model;
 
-/// What a line says of where the header, a table or a refcount block lies.
+/// A line: the place of the header, a table or a refcount block.
 #[derive(Clone, Copy)]
 pub(super) enum TableLine {
     Header,
-    /// Clusters that the bytes of the L1 table are in.
+    /// The clusters with bytes of the L1 table.
     L1Table {
         first: HostCluster,
         count: u64,
     },
-    /// The L2 table that an L1 entry names, with the range of the disk that it maps and the counter of its
+    /// The L2 table that an L1 entry names, the range of the disk that it maps, and the refcount of its
     /// cluster.
     L2Table {
         l1_index: u64,
@@ -39,12 +39,12 @@ pub(super) enum TableLine {
         mapped: u64,
         counter: u64,
     },
-    /// Clusters of the refcount table.
+    /// The clusters of the refcount table.
     RefcountTable {
         first: HostCluster,
         count: u64,
     },
-    /// The block that a refcount table entry names, and the first cluster that it counts.
+    /// The refcount block that a refcount table entry names, and the first cluster that it counts.
     RefcountBlock {
         index: u64,
         cluster: HostCluster,
@@ -52,8 +52,8 @@ pub(super) enum TableLine {
     },
 }
 
-// A sink of the walk over an image with this header: a row for each table, those that map the disk apart from
-// those that count clusters.
+// A sink of the walk over an image with this header: a row for each table, with those that map the disk
+// apart from those that count clusters.
 #[derive(Drop)]
 struct Rows<'a> {
     header: &'a Header,
@@ -75,13 +75,13 @@ impl<'a> Model for Rows<'a> {
 
 /// Prints where everything lies in an image with this header, in lines: the header, the L1 table, the L2
 /// table of each L1 entry that names one, the refcount table, and the block of each of its entries that
-/// names one. Numbers are of host clusters. The line of an L2 table has its L1 index, its cluster, the guest
-/// offset and the length of what it maps, and the counter of its cluster. That of a block has its index, its
-/// cluster, and the first cluster that it counts.
+/// names one. Places are numbers of host clusters. An L2 table's line has its L1 index, its cluster, the
+/// guest offset and the length in bytes of what it maps, and the refcount of its cluster. A block's line
+/// has its index, its cluster, and the first cluster that it counts.
 ///
-/// Returns the fault of the L1 table, that of the refcount table, and then 21 where a block that it names
-/// would end past 2^56. Each fault comes before any line; a failed write to `out` is the storage fault. L2
-/// tables aren't read. Changes no byte of the image.
+/// Returns the fault of the L1 table, that of the refcount table, and then 21 if a block that it names
+/// would end past 2^56. Each fault comes before any line; a failed write to `out` is the storage fault.
+/// Doesn't read L2 tables. Changes no byte of the image.
 pub fn print_tables<S: Storage, O: Write>(
     alloc: Global,
     image: &mut S,
@@ -97,7 +97,7 @@ pub fn print_tables<S: Storage, O: Write>(
     print_rows(&rows, out)
 }
 
-// The rows of an image with this header.
+// Returns the rows of an image with this header.
 fn image_rows<'a, S: Storage>(
     alloc: Global,
     image: &mut S,
@@ -152,7 +152,7 @@ impl UseSink for Rows<'_> {
         Prim.grind (arith, one, other, flat_map-append, append_assoc) };
 }
 
-// The row of an L2 table that begins with a cluster, before its counter is read.
+// The row of the L2 table at a cluster, before its refcount is read.
 #[tactic(auto, using(crate::proofs::TablesLemmas::table_starts, crate::proofs::TablesLemmas::mapped_fits))]
 fn l2_row(header: &Header, cluster: HostCluster, l1_index: u64) -> TableLine
     requires { l1_index < most_l1_entries }
@@ -182,7 +182,7 @@ fn block_row(header: &Header, cluster: HostCluster, index: u64) -> TableLine
     }
 }
 
-// Reads the counters of the L2 tables' clusters into rows.
+// Reads the refcounts of the L2 tables' clusters into their rows.
 fn read_counters<S: Storage>(
     rows: &mut [TableLine],
     counters: &mut Counters<'_>,
@@ -201,7 +201,7 @@ fn read_counters<S: Storage>(
     Ok(())
 }
 
-// Reads the counter of the cluster into a row, if it is an L2 table's.
+// Reads the refcount of the cluster into a row, if the row is of an L2 table.
 fn read_counter<S: Storage>(
     row: &mut TableLine,
     counters: &mut Counters<'_>,
@@ -225,7 +225,7 @@ fn read_counter<S: Storage>(
     Ok(())
 }
 
-// Prints the rows: those that map the disk, and then those that count clusters.
+// Prints the rows that map the disk, and then those that count clusters.
 #[tactic(auto, using(crate::proofs::TablesLemmas::rows_printed))]
 fn print_rows<O: Write>(rows: &Rows<'_>, out: &mut O) -> Result<(), Fault>
     ensures { PrintsText result (O.contents out.old) (O.contents out.new)

@@ -1,4 +1,4 @@
-//! The words of a command line that several commands read.
+//! Words of a command line, for several commands.
 
 ghost use Rattle.std.specs.Prelude.{◌≡◌, ℕ, IfOk, List, Option, map, option_map, string_bytes};
 ghost use Rattle.qcow2_session.specs.Commands.Words as spec;
@@ -8,8 +8,8 @@ use super::Command;
 use std::alloc::{AllocError, Global};
 use std::marker::Model;
 
-/// What words of a command line say: edits, steps or clusters, in their order. Contracts see the list of
-/// them.
+/// The parsed arguments of a command: edits, steps or clusters, in their order. Contracts see them as a
+/// list.
 #[derive(Drop)]
 pub struct Arguments<T> {
     list: Vec<T>,
@@ -23,7 +23,7 @@ impl<T> Model for Arguments<T> {
     ghost view = { λ changes. changes.list.items };
 }
 
-/// The name of an image's file, as its word on the command line. Contracts see the bytes of its text.
+/// The name of an image's file, as the command line has it. Contracts see the bytes of its text.
 #[derive(Drop)]
 pub struct FileName {
     text: String,
@@ -38,7 +38,7 @@ impl Model for FileName {
 }
 
 impl FileName {
-    /// The name that a word is. Fails only where memory for it runs out.
+    /// Copies a name. Fails only if memory for it runs out.
     pub fn new(alloc: Global, word: &str) -> Result<FileName, AllocError>
         ensures { IfOk result (λ name. name ≡ word.now) }
     {
@@ -46,7 +46,7 @@ impl FileName {
         Ok(FileName { text })
     }
 
-    /// Its text.
+    /// Returns the text of the name.
     pub fn as_str(&self) -> &str
         ensures { result.now ≡ self.now }
     {
@@ -54,17 +54,17 @@ impl FileName {
     }
 }
 
-// What a word can say.
+// A value that a word can be parsed to.
 pub(super) trait FromWord: Copy {
     ghost from_word: { List ℕ → Option Self };
 
-    // What a word says, if it says such a thing.
+    // Parses a word.
     fn from_word(word: &str) -> Option<Self>
         ensures { result ≡ from_word word.now };
 }
 
 impl<T> Arguments<T> {
-    /// What the words say.
+    /// Returns the values.
     pub fn as_slice(&self) -> &[T]
         ensures { result.now ≡ self.now }
     {
@@ -73,7 +73,7 @@ impl<T> Arguments<T> {
 }
 
 impl<T: FromWord> Arguments<T> {
-    // What words say, if each says such a thing.
+    // Parses the words, each of which must be a value.
     #[tactic(auto, using(crate::proofs::WordsLemmas::values_of_words))]
     pub(super) fn parse(alloc: Global, words: &[String]) -> Option<Result<Arguments<T>, AllocError>>
         ensures { Parses result (spec.all_values T.from_word (map string_bytes words.now)) }
@@ -92,26 +92,26 @@ impl<T: FromWord> Arguments<T> {
     }
 }
 
-/// The number that 1 to 20 decimal digits say, if it fits 64 bits. There is no sign.
+/// Parses 1 to 20 decimal digits, without a sign, to a number that fits 64 bits.
 #[tactic(auto, using(crate::proofs::CommandsLemmas::number_of_parsed))]
 pub(super) fn number(word: &str) -> Option<u64>
     ensures { result ≡ spec.word_number word.now }
 {
-    // `parse` takes a plus in front.
+    // `parse` accepts a leading plus.
     if word.len() > 20 || word.starts_with('+') {
         return None;
     }
     word.parse().ok()
 }
 
-/// What stands before the first colon of a word, and after it.
+/// Splits a word at its first colon.
 pub(super) fn parts(word: &str) -> Option<(&str, &str)>
     ensures { option_map (λ parts. (parts.0.now, parts.1.now)) result ≡ spec.parts_of word.now }
 {
     word.split_once(':')
 }
 
-/// The command, if there are no words after its image.
+/// Returns the command if no words follow its image.
 pub(super) fn alone(command: Command, arguments: &[String]) -> Option<Result<Command, AllocError>>
     ensures { Parses result (spec.command_alone command (map string_bytes arguments.now)) }
 {

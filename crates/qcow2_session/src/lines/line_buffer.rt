@@ -1,4 +1,4 @@
-//! A line in the making. It is put together in place, from its end to its start, and takes no memory.
+//! A buffer for a line, filled in place from its end to its start, without allocation.
 
 ghost use Rattle.std.specs.Prelude.{◌≡◌, ◌+◌, ◌<◌, ◌≤◌, ◌∷◌, ◌++◌, [], false, drop, length};
 ghost use Rattle.std.specs.Fmt.{decimal, digits};
@@ -6,13 +6,13 @@ ghost use Rattle.qcow2_session.specs.Lines.{offset_text};
 
 use std::marker::Model;
 
-/// How many bytes a line may have.
+/// The capacity of a line, in bytes.
 pub(crate) const LINE_BYTES: usize = 256;
 
-/// The digits of hexadecimal numbers.
+/// Hexadecimal digits, in lower case.
 const HEX_DIGITS: [u8; 16] = *b"0123456789abcdef";
 
-/// What is written of a line, its end. Clauses see it as these bytes.
+/// A line under construction: `bytes` from `start` on. Contracts see these bytes.
 #[derive(Drop)]
 pub(crate) struct LineBuffer {
     bytes: [u8; LINE_BYTES],
@@ -30,7 +30,7 @@ impl Model for LineBuffer {
 }
 
 impl LineBuffer {
-    /// A line with nothing written yet.
+    /// Makes an empty line.
     #[inline]
     pub(crate) fn new() -> LineBuffer
         ensures { result ≡ [] }
@@ -41,7 +41,7 @@ impl LineBuffer {
         }
     }
 
-    /// Takes out all that is written.
+    /// Empties the line.
     #[inline]
     pub(crate) fn clear(&mut self)
         ensures { self.new ≡ [] }
@@ -49,7 +49,7 @@ impl LineBuffer {
         self.start = self.bytes.len();
     }
 
-    /// What is written.
+    /// Returns the line so far.
     #[inline]
     pub(crate) fn as_bytes(&self) -> &[u8]
         ensures { result.now ≡ self.now }
@@ -102,7 +102,7 @@ impl LineBuffer {
     }
 }
 
-// Writes the digits of a number so that they end before an index, and returns where they start.
+// Writes the hexadecimal digits of a number so that they end before `end`, and returns where they start.
 #[tactic(auto, using(crate::proofs::HexLemmas::hex_written))]
 fn write_hex(number: u64, bytes: &mut [u8], end: usize) -> usize
     requires { (16 ≤ end) × (end ≤ length bytes.old) }

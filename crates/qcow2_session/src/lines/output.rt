@@ -1,4 +1,4 @@
-//! An output that goes on until a write fails, and then takes nothing more.
+//! An output that stops at the first failed write.
 
 ghost use Rattle.std.specs.Prelude.{◌≡◌, ◌≤◌, false, if◌then◌else◌, length, take};
 ghost use Rattle.std.specs.Io.KnownBytes.{Appends};
@@ -8,7 +8,7 @@ ghost use Rattle.qcow2_session.specs.Lines.Output.{Begins, Gets, GoesOn};
 use qcow2_base::Fault;
 use std::io::{ErrorKind, Write};
 
-/// What is printed to, and whether a write of it has failed.
+/// A writer, and whether a write to it has failed.
 #[derive(Drop)]
 pub(crate) struct Output<'a, W: Write> {
     writer: &'a mut W,
@@ -16,7 +16,7 @@ pub(crate) struct Output<'a, W: Write> {
 }
 
 impl<'a, W: Write> Output<'a, W> {
-    /// No write has failed yet.
+    /// Makes an output without a failed write.
     pub(crate) fn new(writer: &'a mut W) -> Output<'a, W>
         ensures { Begins writer.entry result }
     {
@@ -26,7 +26,7 @@ impl<'a, W: Write> Output<'a, W> {
         }
     }
 
-    /// Prints these bytes, unless a write has failed before.
+    /// Prints bytes, unless a write has failed before.
     #[inline]
     #[tactic(auto, using(crate::proofs::OutputLemmas::appended_unless))]
     pub(crate) fn print(&mut self, bytes: &[u8])
@@ -38,7 +38,7 @@ impl<'a, W: Write> Output<'a, W> {
         }
     }
 
-    /// The storage fault, where a write has failed.
+    /// Returns the storage fault if a write has failed.
     pub(crate) fn result(&self) -> Result<(), Fault>
         ensures { result ≡ (if self.now.has_failed then Err Fault.Storage else Ok tt) }
     {
@@ -50,7 +50,7 @@ impl<'a, W: Write> Output<'a, W> {
     }
 }
 
-/// Prints these bytes.
+/// Prints bytes.
 #[inline(always)]
 #[tactic(auto, using(crate::proofs::OutputLemmas::part_taken))]
 pub(crate) fn print<W: Write>(bytes: &[u8], writer: &mut W) -> Result<(), Fault>
@@ -62,8 +62,8 @@ pub(crate) fn print<W: Write>(bytes: &[u8], writer: &mut W) -> Result<(), Fault>
     Ok(())
 }
 
-/// Writes bytes until all are written or a write fails, and returns how many were. Mostly one write takes
-/// all, and what comes then is a call of its own. Where there are no bytes, no write is made.
+/// Writes bytes until all are written or a write fails, and returns how many were. Usually one write takes
+/// all, so another function writes the rest. Makes no write for no bytes.
 #[inline(always)]
 #[tactic(auto, using(crate::proofs::ReportLemmas::appends_more))]
 pub(crate) fn write_out<W: Write>(bytes: &[u8], writer: &mut W) -> usize
@@ -80,7 +80,7 @@ pub(crate) fn write_out<W: Write>(bytes: &[u8], writer: &mut W) -> usize
     count + write_rest(&bytes[count..], writer)
 }
 
-// Writes bytes of which the first write didn't take all.
+// Writes the bytes that the first write didn't take.
 #[inline(never)]
 #[tactic(auto, using(crate::proofs::ReportLemmas::appends_more))]
 fn write_rest<W: Write>(bytes: &[u8], writer: &mut W) -> usize
@@ -101,8 +101,8 @@ fn write_rest<W: Write>(bytes: &[u8], writer: &mut W) -> usize
     written
 }
 
-// Writes a part of these bytes. Returns how many, and whether the write failed: one that was interrupted is
-// to be made again.
+// Writes a part of the bytes. Returns how many, and whether the write failed: an interrupted one didn't,
+// and can be repeated.
 #[inline(always)]
 fn write_part<W: Write>(bytes: &[u8], writer: &mut W) -> (usize, bool)
     ensures bound { result.0 ≤ length bytes.now }

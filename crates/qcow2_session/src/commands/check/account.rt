@@ -1,4 +1,4 @@
-//! What a check finds of an image, in numbers.
+//! The results of a check in numbers.
 
 ghost use Rattle.std.specs.Prelude.{◌≡◌, ◌+◌, ◌≤◌, nat_lt, if◌then◌else◌, IfErr, IfOk, IsOkUnless};
 ghost use Rattle.qcow2_base.specs.Storage.{OnImage, OnlyReads};
@@ -15,20 +15,20 @@ use qcow2_metadata::Header;
 use qcow2_summary::{EntryCounts, count_entries, end_of_image, most_clusters};
 use std::alloc::Global;
 
-/// What a check finds of an image, in numbers.
+/// The results of a check in numbers.
 #[derive(Clone, Copy)]
 pub(super) struct Account {
     pub(super) totals: Totals,
-    /// How many of these are corruptions, as QEMU counts, with an L1 table that is too short for the disk.
+    /// The number of corruptions as QEMU counts them, among them an L1 table too short for the disk.
     pub(super) corruptions: u64,
-    /// Where the image ends, in bytes.
+    /// The end of the image, in bytes.
     pub(super) image_end: u64,
-    /// How many clusters the guest's disk has.
+    /// The number of clusters of the guest's disk.
     pub(super) guest_clusters: u64,
     pub(super) entries: EntryCounts,
 }
 
-// What is found of some clusters: how many of each kind, and the number after the last below a limit.
+// The findings so far: their totals, and the number after the last cluster below a limit.
 #[derive(Clone, Copy)]
 struct Found {
     totals: Totals,
@@ -36,7 +36,7 @@ struct Found {
 }
 
 impl Found {
-    // This, and one finding more.
+    // Adds a finding.
     fn with_finding(self, finding: &Finding, limit: u64) -> Result<Found, Fault>
         ensures fault { IsOkUnless result NoMemory }
         ensures totals { IfOk result (λ found. found.totals ≡ with_clusters self.totals finding.now 1) }
@@ -55,7 +55,7 @@ impl Found {
     }
 }
 
-// Counts the findings of the image that a reader is at the start of.
+// Counts the findings of a reader that is at their start.
 fn count_findings<S: Storage>(
     findings: &mut Findings<'_>,
     image: &mut S,
@@ -82,7 +82,7 @@ fn count_findings<S: Storage>(
     Ok(found)
 }
 
-// The totals of the image that a reader of findings is at the start of, and where it ends.
+// The totals and the end in bytes of an image, from a reader at the start of its findings.
 fn totals_and_end<S: Storage>(
     findings: Findings<'_>,
     image: &mut S,
@@ -106,7 +106,7 @@ fn totals_and_end<S: Storage>(
     Ok((totals, end))
 }
 
-/// Takes the account of an image with this header.
+/// Checks an image with this header, and returns the results.
 pub(super) fn take_account<S: Storage>(
     alloc: Global,
     image: &mut S,

@@ -1,4 +1,4 @@
-//! The object in JSON that a check prints.
+//! The JSON object that a check prints.
 
 ghost use Rattle.std.specs.Prelude.{◌≡◌, ◌+◌, ◌<◌, ◌≤◌, ◌++◌, flat_map, length, true};
 ghost use Rattle.std.specs.Char.Escape.{encode_utf16};
@@ -10,7 +10,7 @@ use super::account::Account;
 use crate::lines::{LineBuffer, Output};
 use std::io::Write;
 
-/// Prints the object of an account of an image, whose file has this name.
+/// Prints the object for the results of a check, with the name of the image's file.
 pub(super) fn print_object<O: Write>(file_name: &str, account: &Account, out: &mut Output<O>)
     ensures text { Gets O.contents out.old out.new (object_text file_name.now account.now) }
     ensures goes_on { GoesOn out.old out.new }
@@ -30,7 +30,7 @@ pub(super) fn print_object<O: Write>(file_name: &str, account: &Account, out: &m
     out.print(last_lines(account.entries.fragmented).as_bytes());
 }
 
-// Prints the line of a member that is a number, unless that is 0.
+// Prints the line of a number, unless it is 0.
 fn print_number<O: Write>(name: &str, number: u64, out: &mut Output<O>)
     requires { length name.now ≤ 100 }
     ensures text { Gets O.contents out.old out.new (number_line name.now number) }
@@ -39,7 +39,7 @@ fn print_number<O: Write>(name: &str, number: u64, out: &mut Output<O>)
     out.print(number_line(name, number).as_bytes());
 }
 
-// The line of a member that is a number, which is left out where that is 0.
+// The line of a number, empty if it is 0.
 fn number_line(name: &str, number: u64) -> LineBuffer
     requires { length name.now ≤ 100 }
     ensures { result ≡ number_line name.now number }
@@ -55,7 +55,7 @@ fn number_line(name: &str, number: u64) -> LineBuffer
     line
 }
 
-// Prints the line of the name of the image's file.
+// Prints the line with the name of the image's file.
 fn print_file_name<O: Write>(name: &str, out: &mut Output<O>)
     ensures text { Gets O.contents out.old out.new (file_line name.now) }
     ensures goes_on { GoesOn out.old out.new }
@@ -65,7 +65,7 @@ fn print_file_name<O: Write>(name: &str, out: &mut Output<O>)
     out.print(b"\",\n");
 }
 
-// Prints a text as it stands in a string.
+// Prints a text, escaped for a JSON string.
 fn print_escaped<O: Write>(text: &str, out: &mut Output<O>)
     ensures text { Gets O.contents out.old out.new (escaped_text text.now) }
     ensures goes_on { GoesOn out.old out.new }
@@ -75,7 +75,7 @@ fn print_escaped<O: Write>(text: &str, out: &mut Output<O>)
     }
 }
 
-// A character as it stands in a string.
+// A character, escaped for a JSON string.
 fn escaped_char(character: char) -> LineBuffer
     ensures { result ≡ escaped_char character }
 {
@@ -94,7 +94,7 @@ fn escaped_char(character: char) -> LineBuffer
     line
 }
 
-// Puts the one or two units of a character in UTF-16 in front of a line.
+// Puts the one or two UTF-16 units of a character in front of a line, escaped.
 fn prepend_units(line: &mut LineBuffer, code: u32)
     requires code { code < 1114112 }
     requires room { length line.old ≤ 100 }
@@ -108,7 +108,7 @@ fn prepend_units(line: &mut LineBuffer, code: u32)
     }
 }
 
-// Puts a unit in front of a line.
+// Puts an escaped UTF-16 unit in front of a line.
 fn prepend_unit(line: &mut LineBuffer, unit: u32)
     requires { length line.old ≤ 150 }
     ensures text { line.new ≡ escaped_unit unit ++ line.old }
@@ -121,7 +121,7 @@ fn prepend_unit(line: &mut LineBuffer, unit: u32)
     line.prepend("\\u");
 }
 
-// The hexadecimal digit of a number below 16.
+// The hexadecimal digit of a number below 16, in upper case.
 fn hex_digit(number: u32) -> u8
     requires { number < 16 }
     ensures { result ≡ digit_glyph true number }
@@ -133,7 +133,7 @@ fn hex_digit(number: u32) -> u8
     }
 }
 
-// The last lines: the format, and how many entries are fragmented.
+// The last lines: the format, and the number of fragmented entries unless it is 0.
 fn last_lines(fragmented: u64) -> LineBuffer
     ensures { result ≡ last_lines fragmented }
 {

@@ -1,4 +1,4 @@
-//! The lines of a check: those of runs of findings, of wrong flags, and the last.
+//! The lines of a check: runs of findings, wrong flags, and the end.
 
 ghost use Rattle.std.specs.Prelude.{◌≡◌, ◌+◌, ◌≤◌, ◌++◌, codes, length};
 ghost use Rattle.qcow2_session.specs.Commands.Check.Lines.{counter_text, counts_line, end_lines, flag_line, place_text, run_lines, run_numbers, totals_line};
@@ -8,7 +8,7 @@ use crate::lines::{LineBuffer, ToLine};
 use qcow2_check::{FlagPlace, Totals, Verdict, WrongFlag, is_l1_short, needed_l1_entries};
 use qcow2_metadata::Header;
 
-/// Clusters of which the same is found: a line for each kind that they are of.
+/// Clusters with the same finding: a line for each kind that it is.
 impl ToLine for FindingRun {
     ghost line = { run_lines };
 
@@ -46,7 +46,7 @@ fn prepend_numbers(line: &mut LineBuffer, run: &FindingRun)
     line.prepend_decimal(run.first.cluster.0);
 }
 
-/// A flag that is wrong.
+/// A wrong copied flag.
 impl ToLine for WrongFlag {
     ghost line = { flag_line };
 
@@ -63,7 +63,7 @@ impl ToLine for WrongFlag {
     }
 }
 
-// Puts the counter of a cluster in front of a line, if it has one.
+// Puts the refcount of a cluster in front of a line, or `none`.
 fn prepend_counter(line: &mut LineBuffer, counter: Option<u64>)
     requires { length line.old ≤ 100 }
     ensures text { line.new ≡ counter_text counter ++ line.old }
@@ -75,7 +75,7 @@ fn prepend_counter(line: &mut LineBuffer, counter: Option<u64>)
     }
 }
 
-// Puts in front of a line which entry has a flag.
+// Puts the place of a flag in front of a line: its L1 index, or its guest offset.
 fn prepend_place(line: &mut LineBuffer, place: FlagPlace)
     requires { length line.old ≤ 100 }
     ensures text { line.new ≡ place_text place ++ line.old }
@@ -90,7 +90,7 @@ fn prepend_place(line: &mut LineBuffer, place: FlagPlace)
     }
 }
 
-/// The last lines of a check that found that much of an image with this header.
+/// The last lines of a check with these totals, for an image with this header.
 pub(super) fn end_lines(totals: &Totals, header: &Header) -> LineBuffer
     ensures { result ≡ end_lines header.now totals.now }
 {
@@ -106,7 +106,7 @@ pub(super) fn end_lines(totals: &Totals, header: &Header) -> LineBuffer
     lines
 }
 
-// The last line where the L1 table is long enough.
+// The last line if the L1 table is long enough.
 fn totals_line(totals: &Totals) -> LineBuffer
     ensures { result ≡ totals_line totals.now }
 {
@@ -117,7 +117,7 @@ fn totals_line(totals: &Totals) -> LineBuffer
     }
 }
 
-// How many clusters and flags of each kind there are.
+// The number of clusters and flags of each kind.
 fn counts_line(totals: &Totals) -> LineBuffer
     ensures text { result ≡ counts_line totals.now }
     ensures bound { length result ≤ 150 }
@@ -137,7 +137,7 @@ fn counts_line(totals: &Totals) -> LineBuffer
     line
 }
 
-// The line for an image of which nothing is found.
+// The line for a consistent image.
 fn consistent_line() -> LineBuffer
     ensures { result ≡ codes "consistent\n" }
 {

@@ -1,4 +1,4 @@
-//! Findings of neighbouring clusters, joined to runs.
+//! Runs of findings of neighbouring clusters.
 
 ghost use Rattle.std.specs.Prelude.{◌≡◌, ◌+◌, ◌^◌, ◌<◌};
 ghost use Rattle.qcow2_session.specs.Commands.Check.Runs.{goes_on, single};
@@ -7,12 +7,12 @@ use qcow2_base::{Fault, Storage};
 use qcow2_check::{Finding, Findings};
 use std::marker::Model;
 
-/// Clusters one after another of which the same is found.
+/// Consecutive clusters with the same finding.
 #[derive(Clone, Copy)]
 pub struct FindingRun {
-    // What is found of the first.
+    // The finding of the first cluster.
     pub(super) first: Finding,
-    // How many they are.
+    // The number of clusters.
     pub(super) count: u64,
 }
 
@@ -24,7 +24,7 @@ impl FindingRun {
         FindingRun { first, count: 1 }
     }
 
-    // Whether a finding is of the cluster after the run, and the same but for that.
+    // Whether a finding extends the run: it is of the next cluster, and otherwise the same.
     fn goes_on(&self, finding: &Finding) -> bool
         requires { self.now.first.cluster.0 + self.now.count < 2 ^ 64 }
         ensures { result ≡ goes_on self.now finding.now }
@@ -36,11 +36,11 @@ impl FindingRun {
     }
 }
 
-/// A reader of the runs of an image's findings, one after another.
+/// A reader of the runs of an image's findings.
 #[derive(Drop)]
 pub(super) struct FindingRuns<'a> {
     findings: Findings<'a>,
-    // The finding after the last run, which was read to know that the run ends.
+    // The finding after the last run, read to see where that run ends.
     ahead: Option<Finding>,
 }
 
@@ -61,7 +61,7 @@ impl<'a> FindingRuns<'a> {
     ghost use Rattle.qcow2_check.specs.Findings.{IsFindingsOf, IsLaterFault, MovesFindings, findings_left};
     ghost use Rattle.qcow2_session.specs.Commands.Check.Runs.{TakesFirst, all_left, runs_of, most_left, runs_left};
 
-    /// A reader of the runs of findings that a reader comes to yet.
+    /// Makes a reader of the runs of the findings that a reader has left.
     pub(super) fn new(findings: Findings<'a>) -> FindingRuns<'a>
         ensures { result ≡ record { findings = findings.entry; ahead = None } }
     {
@@ -71,14 +71,14 @@ impl<'a> FindingRuns<'a> {
         }
     }
 
-    /// The reader of findings, which has come to its end where this one has.
+    /// Returns the reader of findings, which is at its end if this one is.
     pub(super) fn into_findings(self) -> Findings<'a>
         ensures { result ≡ self.entry.findings }
     {
         self.findings
     }
 
-    /// The next run, or nothing after the last. After a fault a run may be lost.
+    /// Returns the next run, or nothing after the last. After a fault a run may be lost.
     pub(super) fn next<S: Storage>(&mut self, image: &mut S) -> Result<Option<FindingRun>, Fault>
         requires { OnImage (S.state image.old) (λ bytes. IsFindingsOf bytes self.old.findings) }
         ensures run { OnImage (S.state image.old) (λ bytes.
@@ -94,7 +94,7 @@ impl<'a> FindingRuns<'a> {
         Ok(Some(self.run_from(image, first)?))
     }
 
-    // The finding that was read ahead, or else the next one.
+    // Returns the finding that was read ahead, or else the next one.
     fn take_finding<S: Storage>(&mut self, image: &mut S) -> Result<Option<Finding>, Fault>
         requires { OnImage (S.state image.old) (λ bytes. IsFindingsOf bytes self.old.findings) }
         ensures finding { OnImage (S.state image.old) (λ bytes. TakesFirst
@@ -112,7 +112,7 @@ impl<'a> FindingRuns<'a> {
         }
     }
 
-    // The run that begins with a finding, the last that was read.
+    // Returns the run that begins with a finding, the last one read.
     fn run_from<S: Storage>(&mut self, image: &mut S, first: Finding) -> Result<FindingRun, Fault>
         requires reader { OnImage (S.state image.old) (λ bytes. IsFindingsOf bytes self.old.findings) }
         requires first { first.cluster.0 < self.old.findings.position }

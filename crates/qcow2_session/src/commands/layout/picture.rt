@@ -1,4 +1,4 @@
-//! A layout as a picture, in SVG.
+//! A layout as an SVG picture.
 
 ghost use Rattle.std.specs.Prelude.{◌≡◌, IsErrOf};
 ghost use Rattle.qcow2_base.specs.Storage.{ReadsFor};
@@ -13,7 +13,7 @@ use qcow2_metadata::Header;
 use std::alloc::Global;
 use std::io::Write;
 
-// The text before the squares. A square is ten units wide and high, and its colour is that of its class.
+// The text before the squares. A square is ten units wide and high, in the colour of its class.
 const BEGIN: &str = "\
 <svg xmlns='http://www.w3.org/2000/svg' width='704' height='784' viewBox='0 0 704 784'>
 <title>Host clusters of a qcow2 image</title>
@@ -27,7 +27,7 @@ text{font:14px sans-serif}
 <g transform='translate(32 32) scale(10)' shape-rendering='crispEdges'>
 ";
 
-// The text after the squares, up to how many clusters each stands for.
+// The text after the squares, up to the number of clusters in a square.
 const LEGEND: &str = "\
 </g>
 <g transform='translate(32 692)'>
@@ -44,8 +44,8 @@ const LEGEND: &str = "\
 <text y='60'>each square has the colour of what strikes most in it, rows from the left and the top on</text>
 <text y='84'>clusters in a square: ";
 
-/// Prints the picture of an image with this header, which takes at most 200 kB. Returns the fault of
-/// `picture_of` before it prints anything.
+/// Prints the picture of an image with this header, of at most 200 kB. Returns the fault of `picture_of`
+/// before it prints anything.
 pub(super) fn print_picture<S: Storage, O: Write>(
     alloc: Global,
     image: &mut S,
@@ -63,7 +63,7 @@ pub(super) fn print_picture<S: Storage, O: Write>(
     print_shapes(shapes.as_slice(), picture.scale(), cluster_size, out)
 }
 
-// Prints shapes of squares that stand for `scale` clusters of this size each.
+// Prints shapes whose squares stand for `scale` clusters of this size in bytes each.
 fn print_shapes<O: Write>(
     shapes: &[Shape],
     scale: u64,
@@ -77,7 +77,7 @@ fn print_shapes<O: Write>(
     print_legend(scale, cluster_size, out)
 }
 
-// Prints shapes, and what stands before them.
+// Prints the text before the squares, and shapes.
 fn print_squares<O: Write>(shapes: &[Shape], out: &mut O) -> Result<(), Fault>
     ensures { PrintsText result (O.contents out.old) (O.contents out.new) (squares_text shapes.now) }
 {
@@ -85,7 +85,7 @@ fn print_squares<O: Write>(shapes: &[Shape], out: &mut O) -> Result<(), Fault>
     print_lines(shapes, out)
 }
 
-// Prints what stands after shapes.
+// Prints the text after the squares.
 fn print_legend<O: Write>(scale: u64, cluster_size: u64, out: &mut O) -> Result<(), Fault>
     ensures { PrintsText result (O.contents out.old) (O.contents out.new) (legend_text scale cluster_size) }
 {
@@ -93,7 +93,7 @@ fn print_legend<O: Write>(scale: u64, cluster_size: u64, out: &mut O) -> Result<
     print(legend_end(scale, cluster_size).as_bytes(), out)
 }
 
-// How many clusters a square stands for, their size, and the end of the picture.
+// The number of clusters in a square, their size in bytes, and the end of the picture.
 fn legend_end(scale: u64, cluster_size: u64) -> LineBuffer
     ensures { result ≡ legend_end_text scale cluster_size }
 {
