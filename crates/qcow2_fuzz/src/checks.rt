@@ -1,4 +1,4 @@
-//! What must hold of the commands on an image: all of them run, and what they print and leave is compared.
+//! Checks of an image: runs all commands, and compares what they print and leave.
 
 mod agreement;
 mod applies;
@@ -50,7 +50,7 @@ pub(crate) fn check_image(trial: &mut Trial<'_>, random: &mut Random) -> Result<
     check_changes(trial, random, &readings)
 }
 
-// Runs the commands that change the image, each on the image as it was.
+// Runs the commands that change the image, each on the original image.
 fn check_changes(
     trial: &mut Trial<'_>,
     random: &mut Random,
@@ -65,7 +65,7 @@ fn check_changes(
     repairs::check_repair(trial, readings)
 }
 
-// Runs each command on an image whose header is refused. That all are refused alike is looked at by each run.
+// Runs each command on an image whose header is refused. Each run checks that it returns the same fault.
 fn check_refusal(trial: &mut Trial<'_>, fault: Fault) -> Result<(), Fault> {
     trial.set_header_fault(Some(fault));
     for (kind, line) in LINES {

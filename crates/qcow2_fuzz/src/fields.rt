@@ -1,4 +1,5 @@
-//! What an image's bytes say, read plainly: arguments are drawn by it, and it says which promises hold.
+//! Fields and entries of an image, read plainly from its bytes: to draw arguments, and to know which
+//! promises hold.
 
 use crate::numbers::{u32_at, u64_at};
 use qcow2_base::Fault;
@@ -10,10 +11,10 @@ pub(crate) const COPIED: u64 = 1 << 63;
 /// The bits of an entry's offset.
 pub(crate) const OFFSET: u64 = (1 << 56) - (1 << 9);
 
-/// How many L1 entries are looked at at most.
+/// The largest number of L1 entries read.
 const MOST_ENTRIES: u64 = 1 << 12;
 
-/// Fields of a header. Cluster bits that no image has are read as 9.
+/// The fields of a header. Invalid cluster bits count as 9.
 #[derive(Clone, Copy)]
 pub(crate) struct Fields {
     pub(crate) version: u64,
@@ -25,12 +26,12 @@ pub(crate) struct Fields {
     pub(crate) refcount_order: u32,
     pub(crate) has_autoclear: bool,
     pub(crate) is_external: bool,
-    /// How many clusters the file has, the last of which may be cut.
+    /// The number of clusters in the file, the last of which may be partial.
     pub(crate) clusters: u64,
 }
 
 impl Fields {
-    /// Those of an image.
+    /// Reads the fields of an image.
     pub(crate) fn of(bytes: &[u8]) -> Fields {
         let version = u32_at(bytes, 4);
         let is_third = version == 3;
@@ -56,7 +57,7 @@ impl Fields {
         }
     }
 
-    /// How many bytes a cluster has.
+    /// The size of a cluster in bytes.
     pub(crate) fn cluster_size(&self) -> u64 {
         1 << self.cluster_bits.min(21)
     }
@@ -66,12 +67,12 @@ impl Fields {
         offset >> self.cluster_bits.min(21)
     }
 
-    /// The distance of an offset from where its cluster begins.
+    /// The distance of an offset from the start of its cluster.
     pub(crate) fn within_cluster(&self, offset: u64) -> u64 {
         offset % self.cluster_size().max(1)
     }
 
-    /// How many entries an L2 table has.
+    /// The number of entries in an L2 table.
     pub(crate) fn table_entries(&self) -> u64 {
         self.cluster_size() / 8
     }
@@ -82,7 +83,7 @@ impl Fields {
         self.l1_entries < guest_clusters.div_ceil(self.table_entries().max(1))
     }
 
-    /// How many counters a refcount block has.
+    /// The number of refcounts in a refcount block.
     pub(crate) fn block_entries(&self) -> u64 {
         self.cluster_size().saturating_mul(8) >> self.refcount_order.min(6)
     }
@@ -95,7 +96,7 @@ impl Fields {
             .wrapping_mul(self.cluster_size())
     }
 
-    /// The offset of the L2 table of an L1 entry, or 0 where that names none.
+    /// The offset of the L2 table that an L1 entry names, or 0 if it names none.
     pub(crate) fn l2_offset(&self, bytes: &[u8], l1_index: u64) -> u64 {
         if l1_index >= self.l1_entries {
             return 0;
@@ -103,7 +104,7 @@ impl Fields {
         u64_at(bytes, self.l1_offset.wrapping_add(l1_index.wrapping_mul(8))) & OFFSET
     }
 
-    /// The L1 entries that name an L2 table, as far as they are looked at.
+    /// The indices of L1 entries that name an L2 table, among the first 4096.
     pub(crate) fn named_tables(&self, alloc: Global, bytes: &[u8]) -> Result<Vec<u64>, Fault> {
         let mut indices = Vec::new(alloc);
         for l1_index in 0..self.l1_entries.min(MOST_ENTRIES) {
@@ -114,7 +115,7 @@ impl Fields {
         Ok(indices)
     }
 
-    /// Whether no two L1 entries name one L2 table. False where there are too many to look at.
+    /// Whether no two L1 entries name one L2 table. False if there are more than 4096 entries.
     pub(crate) fn has_distinct_tables(&self, alloc: Global, bytes: &[u8]) -> Result<bool, Fault> {
         if self.l1_entries > MOST_ENTRIES {
             return Ok(false);
@@ -132,7 +133,7 @@ impl Fields {
         )
     }
 
-    /// Whether the L2 table at an offset shares no byte with the header's cluster and the L1 table.
+    /// Whether the L2 table at an offset overlaps neither the header's cluster nor the L1 table.
     pub(crate) fn lies_apart(&self, l2_offset: u64) -> bool {
         let l1_end = self
             .l1_offset

@@ -1,4 +1,4 @@
-//! Images that are made: drawn by a seed, small, of all kinds, and most of them consistent.
+//! Made images: drawn from a seed, small, of all kinds, most of them consistent.
 
 mod counters;
 mod extensions;
@@ -10,13 +10,13 @@ use extensions::put_extensions;
 use qcow2_base::Fault;
 use std::alloc::Global;
 
-/// Cluster bits that images have, small ones mostly.
+/// The cluster bits of images, mostly small.
 const CLUSTER_BITS: &[u32] = &[9, 9, 9, 9, 9, 9, 9, 9, 10, 10, 10, 11, 11, 12, 12, 12];
 
-/// How many bytes an image has at most, if that is eight clusters or more.
+/// The largest size of an image in bytes, if that is eight clusters or more.
 const MOST_BYTES: u64 = 1 << 15;
 
-/// The cluster of the refcount table, of its one block, of the L1 table, and the first one after these.
+/// The clusters of the refcount table, its one block and the L1 table, and the first cluster after these.
 const REFTABLE: u64 = 1;
 
 const BLOCK: u64 = 2;
@@ -25,7 +25,7 @@ const L1_TABLE: u64 = 3;
 
 const FIRST_FREE: u64 = 4;
 
-/// An image that is being made, and how many uses each of its clusters has.
+/// An image under construction, and the number of references to each of its clusters.
 #[derive(Drop)]
 struct Draft {
     bytes: Vec<u8>,
@@ -35,7 +35,7 @@ struct Draft {
     refcount_order: u32,
     l1_entries: u64,
     is_external: bool,
-    /// The next cluster that nothing uses.
+    /// The next cluster without a reference.
     next: u64,
 }
 
@@ -48,7 +48,7 @@ impl Draft {
         self.uses.len() as u64
     }
 
-    // A cluster that nothing used before and one thing does now, if there is one.
+    // Takes a cluster without a reference, if there is one, and counts a reference to it.
     fn take_cluster(&mut self) -> Option<u64> {
         let cluster = self.next;
         if cluster >= self.cluster_count() {
@@ -59,7 +59,7 @@ impl Draft {
         Some(cluster)
     }
 
-    // Counts one more use of a cluster.
+    // Counts a reference to a cluster.
     fn use_cluster(&mut self, cluster: u64) {
         if let Some(uses) = self.uses.get_mut(cluster as usize) {
             *uses = uses.saturating_add(1);
@@ -67,7 +67,7 @@ impl Draft {
     }
 }
 
-/// The bytes of an image.
+/// Makes the bytes of an image.
 pub(crate) fn made_image(alloc: Global, random: &mut Random) -> Result<Vec<u8>, Fault> {
     let mut draft = drawn_draft(alloc, random)?;
     for cluster in 0..FIRST_FREE {
@@ -77,7 +77,7 @@ pub(crate) fn made_image(alloc: Global, random: &mut Random) -> Result<Vec<u8>, 
     put_extensions(&mut draft, random);
     tables::put_tables(&mut draft, random);
     if random.is_one_in(8) {
-        // a counter that is too great
+        // a refcount that is too great
         let cluster = random.below(draft.cluster_count());
         draft.use_cluster(cluster);
     }
@@ -130,7 +130,7 @@ fn put_header(draft: &mut Draft, random: &mut Random) {
     }
 }
 
-// The size of the disk: what the L1 table has, less or more.
+// The size of the disk: what the L1 table maps, or less or more.
 fn drawn_size(draft: &Draft, random: &mut Random) -> u64 {
     let of_table = draft.cluster_size().wrapping_mul(draft.cluster_size() / 8);
     let whole = draft.l1_entries.wrapping_mul(of_table);

@@ -1,4 +1,4 @@
-//! The commands, and the faults that each may give, as docs/REFERENCE.md has them.
+//! The commands, and the faults that each may return, as in docs/REFERENCE.md.
 
 /// A command in one of its forms.
 #[derive(Clone, Copy, PartialEq, Eq)]
@@ -19,10 +19,10 @@ pub(crate) enum Kind {
     L2,
 }
 
-/// The number of the last fault that a header has.
+/// The greatest number of a header's fault.
 pub(crate) const LAST_OF_HEADER: u32 = 17;
 
-/// The fault of a storage.
+/// The number of the storage fault.
 pub(crate) const STORAGE: u32 = 34;
 
 impl Kind {
@@ -31,7 +31,7 @@ impl Kind {
         matches!(self, Kind::Repair | Kind::Apply | Kind::Edit | Kind::Count)
     }
 
-    /// Whether the command looks at the header.
+    /// Whether the command reads the header.
     pub(crate) fn reads_header(self) -> bool {
         self != Kind::L2
     }
@@ -41,7 +41,7 @@ impl Kind {
         matches!(self, Kind::List | Kind::Map)
     }
 
-    // The faults after those of the header, but for that of the storage.
+    // The faults other than those of the header and of the storage.
     fn own_faults(self) -> &'static [u32] {
         match self {
             Kind::Info => &[],
@@ -55,7 +55,7 @@ impl Kind {
         }
     }
 
-    /// Whether the command may give the fault of this number, where memory doesn't run out and only writes
+    /// Whether the command may return the fault of this number, if memory doesn't run out and only writes
     /// can fail.
     pub(crate) fn may_give(self, number: u32) -> bool {
         match number {

@@ -1,10 +1,10 @@
-//! Runs each command of `qmeta` on hostile images in memory, and looks whether what they print and leave
+//! Runs each command of `qmeta` on hostile images in memory, and checks that what they print and leave
 //! agrees. `scripts/fuzz` runs it.
 //!
-//! Words: SEED COUNT [FILE..]. It draws an image for SEED, one for the seed after that, and so on, until
-//! COUNT runs of commands are made. Some are changed copies of the files, the others are made. Each run that
-//! isn't as it must be has a line with the image's own seed: with that and the same files the image is drawn
-//! first. With COUNT 0 it writes the bytes of that image to standard output.
+//! Words: SEED COUNT [FILE..]. It draws an image for SEED, one for the next seed, and so on, until it has
+//! made COUNT runs of commands. Some images are changed copies of the files, the others are made. It prints
+//! a line for each wrong run, with the image's own seed: started with that seed and the same files it draws
+//! that image first. With COUNT 0 it writes the bytes of the first image to standard output.
 #![tactic(auto)]
 
 mod checks;
@@ -26,7 +26,7 @@ use std::io::Write;
 use std::process::ExitCode;
 use std::{env, fs};
 
-// What words ask for.
+// The arguments.
 #[derive(Drop)]
 struct Asked {
     seed: u64,
@@ -45,7 +45,7 @@ fn main(rt: HostRuntime) -> ExitCode {
     }
 }
 
-// Makes the runs that words ask for, and returns whether all are as they must be.
+// Makes the runs that the arguments ask for, and returns whether all are right.
 fn run(rt: &HostRuntime) -> Result<bool, Fault> {
     let Some(asked) = asked_by(rt)? else {
         let _ = eprintln!(rt; "usage: qcow2_fuzz SEED COUNT [FILE..]");
@@ -58,7 +58,7 @@ fn run(rt: &HostRuntime) -> Result<bool, Fault> {
     try_images(rt, &asked)
 }
 
-// What words ask for, if they ask for something.
+// Parses the arguments, if they are valid, and reads the files.
 fn asked_by(rt: &HostRuntime) -> Result<Option<Asked>, Fault> {
     let Ok(arguments) = env::args(rt) else {
         return Ok(None);
@@ -74,7 +74,7 @@ fn asked_by(rt: &HostRuntime) -> Result<Option<Asked>, Fault> {
     Ok(Some(Asked { seed, count, files }))
 }
 
-// The bytes of files.
+// Reads files.
 fn read_files(rt: &HostRuntime, paths: &[String]) -> Result<Vec<Vec<u8>>, Fault> {
     let mut files = Vec::new(rt.alloc());
     for path in paths {
@@ -86,7 +86,8 @@ fn read_files(rt: &HostRuntime, paths: &[String]) -> Result<Vec<Vec<u8>>, Fault>
     Ok(files)
 }
 
-// Tries image after image until enough runs are made, and prints how many were.
+// Tries image after image until enough runs are made, and prints the numbers of runs, faults and wrong
+// runs. Returns whether none was wrong.
 fn try_images(rt: &HostRuntime, asked: &Asked) -> Result<bool, Fault> {
     let mut tally = Tally {
         runs: 0,
@@ -124,7 +125,7 @@ fn try_image(
     ended
 }
 
-// An image: a made one, or where there are files, one of these as often, with changes.
+// Draws an image, with changes: a made one, or, if there are files, as often one of these.
 fn drawn_image(alloc: Global, random: &mut Random, files: &[Vec<u8>]) -> Result<Vec<u8>, Fault> {
     let index = random.below((files.len() as u64).saturating_mul(2)) as usize;
     let mut image = match files.get(index) {

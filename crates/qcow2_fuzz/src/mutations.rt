@@ -1,11 +1,11 @@
-//! Changes of an image that nothing wrote: bits, bytes, numbers and its length.
+//! Changes of an image that no program would write: of bits, bytes, numbers and its length.
 
 use crate::fields::{COPIED, Fields};
 use crate::numbers::{byte_at, put_bytes, put_u64, u64_at};
 use crate::random::Random;
 use qcow2_base::Fault;
 
-/// How many changes an image gets. Half of the images stay as they are, or nearly so.
+/// The numbers of changes to an image. Five images of nine get one change at most.
 const COUNTS: &[u64] = &[0, 0, 0, 1, 1, 2, 3, 4, 8];
 
 /// Bytes at the edges of their range.
@@ -33,10 +33,10 @@ const NUMBERS: &[u64] = &[
     u64::MAX,
 ];
 
-/// How many numbers that are 0 are passed over to find another one.
+/// The largest number of places searched for a number that isn't 0.
 const MOST_ZEROS: u64 = 64;
 
-/// What is added to a number.
+/// Numbers to add to a number.
 const STEPS: &[u64] = &[1, 8, 512, 1 << 56, COPIED, u64::MAX, u64::MAX - 511];
 
 /// Changes an image.
@@ -86,8 +86,8 @@ fn change_bytes(bytes: &mut [u8], fields: &Fields, random: &mut Random) {
     }
 }
 
-// A place in the header, near the start of a cluster, or anywhere in one. Half of the time it is that of the
-// next number that isn't 0.
+// A place in the header, near the start of a cluster, or anywhere in one. Half of the time it is the next
+// number from there on that isn't 0.
 fn drawn_place(bytes: &[u8], fields: &Fields, random: &mut Random) -> u64 {
     let place = any_place(fields, random);
     if random.is_one_in(2) {

@@ -1,4 +1,4 @@
-//! Big-endian numbers in bytes. What doesn't fit isn't put, and what is past the end reads as zero.
+//! Big-endian numbers in bytes. A write that doesn't fit does nothing, and bytes past the end read as zero.
 
 /// Puts bytes at a place.
 pub(crate) fn put_bytes(bytes: &mut [u8], place: u64, new: &[u8]) {

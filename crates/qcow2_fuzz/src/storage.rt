@@ -1,24 +1,23 @@
-//! An image in memory that takes no byte past a length. So one whose tables lie far away can't ask for all
-//! memory there is.
+//! A storage in memory of bounded length, so that an image whose tables lie far away can't take all memory.
 
 ghost use Rattle.std.specs.Prelude.{◌≡◌, ◌+◌, ◌^◌, ◌%◌, IsErr};
 
 use qcow2_base::{Device, Storage, StorageFault};
 
-/// How long an image gets at most, in bytes.
+/// The greatest length of an image, in bytes.
 pub(crate) const MOST_BYTES: u64 = 1 << 20;
 
-/// A storage that passes its calls on to another, but for writes that end past a length.
+/// A storage that passes its calls on to another, except writes that end past a length.
 #[derive(Drop)]
 pub(crate) struct BoundedStorage<S> {
-    /// The storage that calls are passed on to.
+    /// The storage that the calls go to.
     pub(crate) inner: S,
     failures: u64,
     is_written: bool,
 }
 
 impl<S> BoundedStorage<S> {
-    /// Passes all calls on to this storage.
+    /// Wraps a storage.
     pub(crate) fn new(inner: S) -> BoundedStorage<S> {
         BoundedStorage {
             inner,
@@ -27,17 +26,17 @@ impl<S> BoundedStorage<S> {
         }
     }
 
-    /// Whether a write was refused.
+    /// Whether a call has failed.
     pub(crate) fn has_failed(&self) -> bool {
         self.failures != 0
     }
 
-    /// Whether a write was asked for.
+    /// Whether a write was requested.
     pub(crate) fn is_written(&self) -> bool {
         self.is_written
     }
 
-    // Counts one more failed call.
+    // Counts a failed call.
     fn fail<T>(&mut self) -> Result<T, StorageFault>
         ensures err { IsErr result }
         ensures counted { self.new ≡ record self.old { failures = (self.old.failures + 1) % 2 ^ 64 } }

@@ -1,9 +1,9 @@
-//! What the lines say that commands print, in the forms that docs/REFERENCE.md has.
+//! Parses the output of commands, in the forms of docs/REFERENCE.md.
 
 use qcow2_base::Fault;
 use std::alloc::Global;
 
-/// What a guest cluster reads as.
+/// The mapping of a guest cluster.
 #[derive(Clone, Copy, PartialEq, Eq)]
 pub(crate) enum Mapping {
     Data { offset: u64, is_copied: bool },
@@ -13,7 +13,7 @@ pub(crate) enum Mapping {
     Backing { offset: u64 },
 }
 
-/// What an extent reads as.
+/// The content of an extent.
 #[derive(Clone, Copy, PartialEq, Eq)]
 pub(crate) enum Content {
     Data(u64),
@@ -49,7 +49,7 @@ pub(crate) struct Totals {
 }
 
 impl Mapping {
-    /// What the byte at a distance from the cluster's start reads as.
+    /// The content at a distance from the cluster's start.
     pub(crate) fn content(self, distance: u64) -> Content {
         match self {
             Mapping::Data { offset, .. } => Content::Data(offset.wrapping_add(distance)),
@@ -64,7 +64,7 @@ impl Mapping {
 }
 
 impl Content {
-    /// What the byte at a distance further on in the same extent reads as.
+    /// The content this much further on in the same extent.
     pub(crate) fn moved(self, distance: u64) -> Content {
         match self {
             Content::Data(offset) => Content::Data(offset.wrapping_add(distance)),
@@ -77,7 +77,7 @@ impl Content {
 }
 
 impl Totals {
-    /// Those of an image with which nothing is wrong.
+    /// The totals of a consistent image.
     pub(crate) const NONE: Totals = Totals {
         leaked: 0,
         missing: 0,
@@ -86,23 +86,23 @@ impl Totals {
         late_flags: 0,
     };
 
-    /// Whether they have something that may destroy data.
+    /// Whether the totals have something that may destroy data.
     pub(crate) fn has_errors(&self) -> bool {
         self.missing != 0 || self.shared != 0 || self.false_flags != 0
     }
 }
 
-/// The number that a word of decimal digits says.
+/// Parses decimal digits.
 pub(crate) fn number_of(word: &str) -> Option<u64> {
     word.parse::<u64>().ok()
 }
 
-/// The number that a word of hexadecimal digits after `0x` says.
+/// Parses hexadecimal digits after `0x`.
 pub(crate) fn offset_of(word: &str) -> Option<u64> {
     u64::from_str_radix(word.strip_prefix("0x")?, 16).ok()
 }
 
-/// The mapping that a line says.
+/// Parses a mapping.
 pub(crate) fn mapping_of(text: &str) -> Option<Mapping> {
     let (name, words) = text.split_once(' ').unwrap_or((text, ""));
     match name {
@@ -123,7 +123,7 @@ pub(crate) fn mapping_of(text: &str) -> Option<Mapping> {
     }
 }
 
-// The offset that words say, and whether it is copied.
+// Parses an offset, and whether ` copied` follows it.
 fn place_of(words: &str) -> Option<(u64, bool)> {
     match words.split_once(' ') {
         None => Some((offset_of(words)?, false)),
@@ -140,7 +140,7 @@ fn compressed_of(words: &str) -> Option<Mapping> {
     })
 }
 
-/// The lines of `list`, or nothing where one has another form.
+/// Parses the lines of `list`. Returns nothing if one has another form.
 pub(crate) fn listed_in(alloc: Global, text: &str) -> Result<Option<Vec<Listed>>, Fault> {
     let mut lines = Vec::new(alloc);
     for line in text.lines() {
@@ -152,7 +152,7 @@ pub(crate) fn listed_in(alloc: Global, text: &str) -> Result<Option<Vec<Listed>>
     Ok(Some(lines))
 }
 
-// What a line of `list` or `l2` says.
+// Parses a line of `list` or `l2`.
 fn listed_of(line: &str) -> Option<Listed> {
     let (label, mapping) = line.split_once(' ')?;
     Some(Listed {
@@ -164,7 +164,7 @@ fn listed_of(line: &str) -> Option<Listed> {
     })
 }
 
-/// The lines of `map`, or nothing where one has another form.
+/// Parses the lines of `map`. Returns nothing if one has another form.
 pub(crate) fn extents_in(alloc: Global, text: &str) -> Result<Option<Vec<Extent>>, Fault> {
     let mut extents = Vec::new(alloc);
     for line in text.lines() {
@@ -203,7 +203,7 @@ pub(crate) fn last_line(text: &str) -> &str {
     text.lines().last().unwrap_or("")
 }
 
-/// The totals that a check prints.
+/// Parses the totals in the last line of a check.
 pub(crate) fn totals_in(text: &str) -> Option<Totals> {
     let line = last_line(text);
     if line == "consistent" {
@@ -223,7 +223,7 @@ pub(crate) fn totals_in(text: &str) -> Option<Totals> {
     })
 }
 
-// The number after a name that a line begins with, and what follows it.
+// Returns the number after the name that a line begins with, and the rest of the line.
 fn first_total<'a>(line: &'a str, name: &str) -> Option<(u64, &'a str)> {
     let (word, rest) = line.split_once(' ')?;
     if word != name {
@@ -233,7 +233,7 @@ fn first_total<'a>(line: &'a str, name: &str) -> Option<(u64, &'a str)> {
     Some((number_of(number)?, rest))
 }
 
-/// The number after a key in an object of JSON, or 0 where that has no such key.
+/// Returns the number of a key in a JSON object, or 0 if the object has no such key.
 pub(crate) fn json_number(text: &str, key: &str) -> Option<u64> {
     for line in text.lines() {
         if let Some((name, value)) = line.trim().split_once(": ")

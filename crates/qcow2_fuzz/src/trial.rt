@@ -1,4 +1,4 @@
-//! An image that commands run on, and what each run must keep.
+//! An image that commands run on, and what must hold after each run.
 
 use crate::fields::Fields;
 use crate::kinds::{Kind, LAST_OF_HEADER, STORAGE};
@@ -11,10 +11,10 @@ use std::alloc::Global;
 use std::io::Write;
 use std::mem;
 
-/// What a command returns.
+/// The result of a command.
 pub(crate) type Answer = Result<Verdict, Fault>;
 
-/// How many runs were made, how many of them ended in a fault, and how many aren't as they must be.
+/// The numbers of runs, of runs that ended in a fault, and of wrong runs.
 #[derive(Clone, Copy)]
 pub(crate) struct Tally {
     pub(crate) runs: u64,
@@ -22,14 +22,14 @@ pub(crate) struct Tally {
     pub(crate) wrong: u64,
 }
 
-/// An image as it was made, as commands left it, and what is wrong.
+/// An image as it was made and as commands left it, and a report of what is wrong.
 #[derive(Drop)]
 pub(crate) struct Trial<'a> {
     pub(crate) alloc: Global,
     pub(crate) seed: u64,
     /// The runs of this image and of those before it.
     pub(crate) tally: Tally,
-    /// A line for each run that isn't as it must be.
+    /// A line for each wrong run.
     pub(crate) report: Vec<u8>,
     pub(crate) before: &'a [u8],
     pub(crate) fields: Fields,
@@ -39,12 +39,12 @@ pub(crate) struct Trial<'a> {
     /// The fault of the image's header, once it is known.
     header_fault: Option<Fault>,
     printed: Vec<u8>,
-    /// How many runs this image had.
+    /// The number of runs on this image.
     runs: u64,
 }
 
 impl<'a> Trial<'a> {
-    /// The image of these bytes, on which nothing has run.
+    /// Begins with an image of these bytes, on which nothing has run.
     pub(crate) fn new(
         alloc: Global,
         seed: u64,
@@ -66,7 +66,7 @@ impl<'a> Trial<'a> {
         })
     }
 
-    /// Makes the image as it was.
+    /// Restores the original image.
     pub(crate) fn restore(&mut self) -> Result<(), Fault> {
         if self.image.is_written() {
             self.image = image_of(self.alloc, self.before)?;
@@ -75,8 +75,8 @@ impl<'a> Trial<'a> {
         Ok(())
     }
 
-    /// Runs the command of a line, whose second word is the image, and reports what doesn't hold of every
-    /// run.
+    /// Runs the command of a line, whose second word is the image. Reports what must hold after every run
+    /// and doesn't.
     pub(crate) fn run(&mut self, kind: Kind, line: &str) -> Result<Answer, Fault> {
         let was_fresh = self.is_fresh;
         self.begin();
@@ -88,14 +88,14 @@ impl<'a> Trial<'a> {
         Ok(answer)
     }
 
-    // Counts one more run, which has printed nothing yet.
+    // Counts a run, and empties the output.
     fn begin(&mut self) {
         self.tally.runs = self.tally.runs.saturating_add(1);
         self.runs = self.runs.saturating_add(1);
         self.printed.clear();
     }
 
-    // What the command of a line returns, if it is one.
+    // Runs the command of a line, and returns its result, if it is a command.
     fn answer_of(&mut self, line: &str) -> Result<Option<Answer>, Fault> {
         let words = words_of(self.alloc, line)?;
         let [name, _, arguments @ ..] = words.as_slice() else {
@@ -111,7 +111,7 @@ impl<'a> Trial<'a> {
         }
     }
 
-    // Counts the fault of a run, and reports what isn't as it must be after each.
+    // Counts the fault of a run, and reports what must hold after every run and doesn't.
     fn end(
         &mut self,
         kind: Kind,
@@ -141,7 +141,7 @@ impl<'a> Trial<'a> {
         Ok(())
     }
 
-    // Reports a fault that the command can't give here, and lines before one that has none.
+    // Reports a fault that the command can't return here, and lines before a fault that must come first.
     fn check_fault(&mut self, kind: Kind, line: &str, fault: Fault) -> Result<(), Fault> {
         self.tally.faults = self.tally.faults.saturating_add(1);
         let number = fault.number();
@@ -154,7 +154,7 @@ impl<'a> Trial<'a> {
         Ok(())
     }
 
-    // Reports a command that finds another fault of the header than `info` did.
+    // Reports a command that finds another fault of the header than `info`.
     fn check_header(&mut self, kind: Kind, line: &str, answer: &Answer) -> Result<(), Fault> {
         if !kind.reads_header() || kind == Kind::Info {
             return Ok(());
@@ -171,9 +171,9 @@ impl<'a> Trial<'a> {
         Ok(())
     }
 
-    // Reports bytes that have changed though they may not: by a command that only reads, or after a fault.
-    // `edit` and `count` may have written the header without autoclear features. What edits of the disk leave
-    // that are refused depends on the image.
+    // Reports bytes that have changed though they mustn't: by a command that only reads, or before a
+    // refusal. `edit` and `count` may have written the header without autoclear bits. What a refused
+    // `apply` leaves depends on the image.
     fn check_bytes(&mut self, kind: Kind, line: &str, answer: &Answer) {
         let is_refused = match answer {
             Ok(_) => false,
@@ -188,7 +188,7 @@ impl<'a> Trial<'a> {
         }
     }
 
-    /// Runs `explain` of a fault, and returns its lines on the image.
+    /// Explains a fault, and returns the lines on the image.
     pub(crate) fn explain(&mut self, fault: Fault) -> Result<String, Fault> {
         self.begin();
         let lines = locate_fault(self.alloc, &mut self.image, fault, "IMAGE")?;
@@ -197,8 +197,8 @@ impl<'a> Trial<'a> {
         Ok(lines)
     }
 
-    /// Whether the image has these bytes, or these and zeros after them. Of one that had autoclear features
-    /// the first cluster isn't looked at.
+    /// Whether the image has these bytes, up to zeros at the end of one of them. If the image had autoclear
+    /// bits, ignores the first cluster.
     pub(crate) fn has_bytes_but_header(&self, bytes: &[u8]) -> bool {
         let start = if self.fields.has_autoclear {
             self.fields.cluster_size()
@@ -208,14 +208,15 @@ impl<'a> Trial<'a> {
         is_same_from(self.image.inner.bytes(), bytes, start as usize)
     }
 
-    /// Reports a line after which not each byte but the header's is as before, and makes the image as it was.
+    /// Reports a line after which the image isn't as before, the header's cluster aside if it had autoclear
+    /// bits, and restores the image.
     pub(crate) fn end_undone(&mut self, line: &str) -> Result<(), Fault> {
         let holds = self.has_bytes_but_header(self.before);
         self.unless(holds, line, "each byte as before, once undone", "others");
         self.restore()
     }
 
-    /// Whether the image has the bytes that it was made with.
+    /// Whether the image has its original bytes.
     pub(crate) fn is_kept(&self) -> bool {
         !self.image.is_written() || self.image.inner.bytes() == self.before
     }
@@ -225,30 +226,30 @@ impl<'a> Trial<'a> {
         self.image.inner.bytes()
     }
 
-    /// What the last command printed.
+    /// The output of the last command.
     pub(crate) fn printed(&self) -> &str {
         std::str::from_utf8(&self.printed).unwrap_or("")
     }
 
-    /// The same, to be kept.
+    /// Takes the output of the last command.
     pub(crate) fn take_printed(&mut self) -> Vec<u8> {
         let alloc = self.alloc;
         mem::replace(&mut self.printed, Vec::new(alloc))
     }
 
-    /// Notes what `info` found of the header.
+    /// Sets the fault of the header that `info` found.
     pub(crate) fn set_header_fault(&mut self, fault: Option<Fault>) {
         self.header_fault = fault;
     }
 
-    /// Reports a run unless something holds.
+    /// Reports a run unless a condition holds.
     pub(crate) fn unless(&mut self, holds: bool, line: &str, expected: &str, found: &str) {
         if !holds {
             self.wrong(line, expected, found);
         }
     }
 
-    /// Reports a run that isn't as it must be.
+    /// Reports a wrong run.
     pub(crate) fn wrong(&mut self, line: &str, expected: &str, found: &str) {
         self.tally.wrong = self.tally.wrong.saturating_add(1);
         let (seed, run) = (self.seed, self.runs);

@@ -1,4 +1,4 @@
-//! Whether `list`, `map`, `at` and `l2` say the same.
+//! Compares `list`, `map`, `at` and `l2`.
 
 use super::drawn;
 use super::json::rows_of;
@@ -10,10 +10,10 @@ use crate::text::{Content, Extent, Listed, Mapping, listed_in, mapping_of};
 use crate::trial::{Answer, Trial};
 use qcow2_base::Fault;
 
-/// How many offsets are looked up.
+/// The number of offsets to look up.
 const LOOKUPS: u32 = 6;
 
-/// Reports extents that don't follow one another over the disk, or say otherwise than `list` or JSON.
+/// Reports extents that don't follow one another over the disk, or that contradict `list` or the JSON form.
 pub(crate) fn check_map(trial: &mut Trial<'_>, readings: &Readings) -> Result<(), Fault> {
     let (fields, line) = (trial.fields, "map IMAGE");
     let extents = readings.extents.as_slice();
@@ -49,7 +49,7 @@ pub(crate) fn check_map(trial: &mut Trial<'_>, readings: &Readings) -> Result<()
     check_json(trial, readings)
 }
 
-// Where extents end that follow one another from offset 0 on, if they do, and none is empty.
+// The end of extents that follow one another from offset 0 on, if they do and none is empty.
 fn end_of(extents: &[Extent]) -> Option<u64> {
     let mut end = 0u64;
     for extent in extents {
@@ -61,7 +61,7 @@ fn end_of(extents: &[Extent]) -> Option<u64> {
     Some(end)
 }
 
-// Whether the second of two extents reads on from the first.
+// Whether the second of two extents continues the first.
 fn goes_on(pair: &[Extent]) -> bool {
     match pair {
         [first, second] => second.content == first.content.moved(first.length),
@@ -69,7 +69,7 @@ fn goes_on(pair: &[Extent]) -> bool {
     }
 }
 
-// The lines of `list` after those of extents, where these say the same as the lines.
+// The lines of `list` after those of the extents, if extents and lines agree.
 fn unmatched<'a>(
     extents: &[Extent],
     lines: &'a [Listed],
@@ -82,7 +82,7 @@ fn unmatched<'a>(
     Some(rest)
 }
 
-// How many lines are those of an extent, if the first ones say the same.
+// The number of lines for an extent at the start of these lines, if they agree with it.
 fn matched(extent: &Extent, lines: &[Listed], cluster_size: u64) -> Option<usize> {
     if extent.content == Content::Absent {
         let end = extent.start.saturating_add(extent.length);
@@ -104,19 +104,19 @@ fn matched(extent: &Extent, lines: &[Listed], cluster_size: u64) -> Option<usize
     Some(count)
 }
 
-// Runs `map` for other programs, and reports other extents.
+// Runs `map` in JSON, and reports extents other than those of `map`.
 fn check_json(trial: &mut Trial<'_>, readings: &Readings) -> Result<(), Fault> {
     let line = "map IMAGE json";
     let map = trial.run(Kind::Map, line)?;
     let rows = rows_of(trial.alloc, readings.extents.as_slice(), map.is_ok())?;
-    // nothing is printed where the L1 table is refused
+    // nothing is printed if the L1 table is refused
     let is_empty = map.is_err() && trial.printed().is_empty() && readings.extents.is_empty();
     let is_same = map == readings.map && (is_empty || trial.printed() == rows.as_str());
     trial.unless(is_same, line, "what `map` says", "another list");
     Ok(())
 }
 
-/// Looks up offsets by `at`, and a table by `l2`, and reports what `list` says otherwise.
+/// Looks up offsets with `at`, and a table with `l2`, and reports what contradicts `list`.
 pub(crate) fn check_lookups(
     trial: &mut Trial<'_>,
     random: &mut Random,
@@ -129,7 +129,7 @@ pub(crate) fn check_lookups(
     check_l2(trial, random, readings)
 }
 
-// An offset at which an entry is listed, at which an extent begins or ends, or any.
+// An offset in a listed guest cluster, at or just before the start of an extent, or any.
 fn drawn_offset(trial: &Trial<'_>, random: &mut Random, readings: &Readings) -> u64 {
     let index = random.below(readings.listed.len().max(readings.extents.len()) as u64) as usize;
     let listed = readings.listed.as_slice().get(index);
@@ -166,7 +166,7 @@ fn check_lookup(trial: &mut Trial<'_>, readings: &Readings, offset: u64) -> Resu
     Ok(())
 }
 
-// What `list` says of the guest cluster at an offset. Nothing is known past the last line where it is
+// The mapping by `list` of the guest cluster at an offset. Unknown past the last line if `list` was
 // refused.
 fn listed_at(readings: &Readings, offset: u64) -> Option<Mapping> {
     let listed = readings.listed.as_slice();
@@ -177,7 +177,7 @@ fn listed_at(readings: &Readings, offset: u64) -> Option<Mapping> {
     }
 }
 
-// Whether a mapping is what the extent says that has the offset, if one has it.
+// Whether a mapping agrees with the extent at the offset, if there is one.
 fn agrees_with_map(
     readings: &Readings,
     offset: u64,
@@ -195,7 +195,7 @@ fn agrees_with_map(
     }
 }
 
-// Lists a table by `l2` that an L1 entry names, and reports other lines than those of `list`.
+// Lists a table that an L1 entry names with `l2`, and reports lines that `list` doesn't have.
 fn check_l2(trial: &mut Trial<'_>, random: &mut Random, readings: &Readings) -> Result<(), Fault> {
     let fields = trial.fields;
     let tables = fields.named_tables(trial.alloc, trial.before)?;
@@ -215,8 +215,8 @@ fn check_l2(trial: &mut Trial<'_>, random: &mut Random, readings: &Readings) -> 
     Ok(())
 }
 
-// Whether lines of `l2` are those of `list` from the first offset of the table on. Where `list` is refused,
-// it may have come to no line of this table.
+// Whether the lines of `l2` are those of `list` from the table's first guest offset on. If `list` was
+// refused, it may have printed no line of this table.
 fn is_part(l2: Answer, lines: &[Listed], readings: &Readings, first: u64, fields: &Fields) -> bool {
     let listed = readings.listed.as_slice();
     let start = listed.iter().filter(|listed| listed.label < first).count();

@@ -1,4 +1,4 @@
-//! Whether edits of the disk do what their plan says, keep the books, and are undone by others.
+//! Checks that edits of the disk do what their plan says, keep refcounts right, and are undone by others.
 
 use super::drawn;
 use super::readings::{Readings, read_check};
@@ -9,7 +9,7 @@ use crate::text::{Listed, Mapping, Totals};
 use crate::trial::{Answer, Trial, is_same_from};
 use qcow2_base::Fault;
 
-/// Plans edits of the disk, makes them, and reports what isn't as `check` and the plan say.
+/// Plans edits of the disk, makes them, and reports what contradicts the plan or `check`.
 pub(crate) fn check_edits(
     trial: &mut Trial<'_>,
     random: &mut Random,
@@ -32,7 +32,7 @@ pub(crate) fn check_edits(
         return check_torn(trial, readings, line.as_str());
     }
     let is_same = apply == plan && trial.printed() == lines_of_clusters(planned.as_slice());
-    // edits of tables that lie in one another change what later ones meet
+    // edits of overlapping tables change what later edits find
     let is_same = is_same || !readings.lie_apart();
     trial.unless(is_same, line.as_str(), "what the plan says", "another end");
     match apply {
@@ -45,7 +45,7 @@ pub(crate) fn check_edits(
     trial.restore()
 }
 
-// What a plan printed of clusters: all but a last line, which says how many bitmaps become stale.
+// The lines of a plan on clusters: all except a last line with the number of stale bitmaps.
 fn lines_of_clusters(planned: &[u8]) -> &str {
     let planned = std::str::from_utf8(planned).unwrap_or("");
     match planned.split_once("stale-bitmaps ") {
@@ -61,7 +61,7 @@ fn is_of_storage(answer: Answer) -> bool {
     }
 }
 
-// Checks an image after edits, and reports findings that edits don't bring.
+// Checks an image after edits, and reports findings that edits can't cause.
 fn check_kept_books(trial: &mut Trial<'_>, readings: &Readings, line: &str) -> Result<(), Fault> {
     let (check, totals) = read_check(trial)?;
     if !readings.lie_apart() {
@@ -72,16 +72,16 @@ fn check_kept_books(trial: &mut Trial<'_>, readings: &Readings, line: &str) -> R
     Ok(())
 }
 
-// Whether edits of the disk can leave these findings of an image whose tables lie apart. Counters stay as far
-// above the uses of their clusters as they were. Where no cluster was missing, none is, and no flag is false
-// that wasn't. A flag may be late.
+// Whether edits of the disk may leave these findings in an image whose tables don't overlap. Refcounts keep
+// their distance to the references: as many clusters are leaked, and no more are missing. If none was
+// missing, none is shared, and no copied flag is false unless one was. A flag may be late.
 fn keeps_books(before: &Totals, after: &Totals) -> bool {
     let brings_errors = before.missing == 0
         && (after.shared != 0 || before.false_flags == 0 && after.false_flags != 0);
     after.leaked == before.leaked && after.missing <= before.missing && !brings_errors
 }
 
-// Checks an image after edits that a refused write broke off: it has leaks at most.
+// Checks an image after a refused write interrupted edits: without errors before, it has leaks at most.
 fn check_torn(trial: &mut Trial<'_>, readings: &Readings, line: &str) -> Result<(), Fault> {
     let (check, totals) = read_check(trial)?;
     if readings.lie_apart() && !readings.totals.has_errors() {
@@ -91,7 +91,7 @@ fn check_torn(trial: &mut Trial<'_>, readings: &Readings, line: &str) -> Result<
     trial.restore()
 }
 
-/// Takes the data of a guest cluster away, and maps it anew, and reports what isn't as before.
+/// Discards a guest cluster of data, maps it again, and reports what isn't as before.
 pub(crate) fn check_undone(
     trial: &mut Trial<'_>,
     random: &mut Random,
@@ -130,7 +130,7 @@ pub(crate) fn check_undone(
     trial.restore()
 }
 
-// The guest offset and the cluster of data that is listed as copied, in an image without errors.
+// The guest offset and the host cluster of data that is listed as copied, in an image without errors.
 fn drawn_data(trial: &Trial<'_>, random: &mut Random, readings: &Readings) -> Option<(u64, u64)> {
     if !readings.lie_apart() || readings.totals.has_errors() || trial.fields.is_external {
         return None;

@@ -1,5 +1,4 @@
-//! Whether the commands agree that look at counters: `check`, `check` in JSON, `layout`, `tables` and
-//! `refcount`.
+//! Compares the commands that read refcounts: `check`, `check` in JSON, `layout`, `tables` and `refcount`.
 
 use super::drawn;
 use super::readings::Readings;
@@ -10,7 +9,7 @@ use crate::trial::Trial;
 use qcow2_base::Fault;
 use qcow2_session::Verdict;
 
-/// A line of `tables` on an L2 table.
+/// The line of an L2 table in `tables`.
 #[derive(Clone, Copy)]
 struct PlacedTable {
     l1_index: u64,
@@ -19,7 +18,7 @@ struct PlacedTable {
     counter: u64,
 }
 
-/// Runs these commands, and reports what they say otherwise than `check`.
+/// Runs these commands, and reports what contradicts `check`.
 pub(crate) fn check_books(
     trial: &mut Trial<'_>,
     random: &mut Random,
@@ -91,7 +90,7 @@ fn check_layout(trial: &mut Trial<'_>, readings: &Readings) -> Result<(), Fault>
     Ok(())
 }
 
-// Where runs of clusters end that follow one another from cluster 0 on, if they do, and none is empty.
+// The end of runs of clusters that follow one another from cluster 0 on, if they do and none is empty.
 fn end_of_runs(text: &str) -> Option<u64> {
     let mut end = 0u64;
     for line in text.lines() {
@@ -106,7 +105,7 @@ fn end_of_runs(text: &str) -> Option<u64> {
     Some(end)
 }
 
-// Runs `tables`, and `refcount` of the clusters of L2 tables.
+// Runs `tables`, and `refcount` of an L2 table's cluster.
 fn check_tables(trial: &mut Trial<'_>) -> Result<(), Fault> {
     let line = "tables IMAGE";
     let tables = trial.run(Kind::Tables, line)?;
@@ -151,7 +150,7 @@ fn placed_table_of(line: &str) -> Option<PlacedTable> {
     })
 }
 
-// Whether the L1 entry names the table, and maps what is said.
+// Whether the L1 entry names the table, and maps the printed guest offset.
 fn is_named(trial: &Trial<'_>, table: &PlacedTable) -> bool {
     let fields = trial.fields;
     let offset = table.cluster.wrapping_mul(fields.cluster_size());
@@ -159,7 +158,7 @@ fn is_named(trial: &Trial<'_>, table: &PlacedTable) -> bool {
         && table.guest_offset == fields.guest_offset(table.l1_index, 0)
 }
 
-// Runs `refcount` of clusters that may be any.
+// Runs `refcount` of any two clusters.
 fn check_counters(trial: &mut Trial<'_>, random: &mut Random) -> Result<(), Fault> {
     let first = drawn::cluster(&trial.fields, random);
     let second = drawn::cluster(&trial.fields, random);

@@ -1,4 +1,4 @@
-//! Whether steps of counters are undone by the opposite ones, and count from what `refcount` prints.
+//! Checks that opposite steps undo steps of refcounts, and that they agree with `refcount`.
 
 use super::drawn;
 use crate::kinds::Kind;
@@ -7,12 +7,12 @@ use crate::random::Random;
 use crate::trial::Trial;
 use qcow2_base::Fault;
 
-/// Makes a step of a counter, and then the opposite one, and reports what isn't as before.
+/// Steps a refcount, then makes the opposite step, and reports what isn't as before.
 pub(crate) fn check_undone(trial: &mut Trial<'_>, random: &mut Random) -> Result<(), Fault> {
     let fields = trial.fields;
     let number = u64_at(trial.before, fields.reftable_offset);
     let block = fields.cluster_of(number);
-    // a block of a valid number, which isn't the header's cluster, of a refcount table that has clusters
+    // only a block with a valid offset outside the header's cluster, of a refcount table that has clusters
     let table_clusters = u64_at(trial.before, 56) >> 32;
     if fields.within_cluster(number) != 0 || block == 0 || table_clusters == 0 {
         return Ok(());
@@ -43,7 +43,7 @@ pub(crate) fn check_undone(trial: &mut Trial<'_>, random: &mut Random) -> Result
     trial.end_undone(line.as_str())
 }
 
-// Whether a step prints the counter that `refcount` printed of its cluster.
+// Whether a step prints the refcount that `refcount` printed of its cluster.
 fn is_counter(trial: &Trial<'_>, counter: &String, index: u64) -> bool {
     let Ok(expected) = format!(in trial.alloc; "{index} ") else {
         return false;
@@ -52,7 +52,7 @@ fn is_counter(trial: &Trial<'_>, counter: &String, index: u64) -> bool {
     before.is_some() && trial.printed().strip_prefix("ok ") == before
 }
 
-/// Makes steps that may be any.
+/// Makes arbitrary steps.
 pub(crate) fn run_any(trial: &mut Trial<'_>, random: &mut Random) -> Result<(), Fault> {
     let fields = trial.fields;
     let block = drawn::cluster(&fields, random);

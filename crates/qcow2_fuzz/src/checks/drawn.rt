@@ -1,4 +1,4 @@
-//! Arguments of commands that are drawn: plausible ones mostly, and some at the edges of their range.
+//! Random arguments of commands: mostly plausible, some at the edges of their range.
 
 use crate::fields::Fields;
 use crate::random::Random;
@@ -25,7 +25,7 @@ pub(crate) fn cluster(fields: &Fields, random: &mut Random) -> u64 {
     random.below(fields.clusters.saturating_add(3))
 }
 
-/// An offset of the guest's disk, or past it.
+/// A guest offset on the disk or past it.
 pub(crate) fn guest_offset(fields: &Fields, random: &mut Random) -> u64 {
     match random.below(10) {
         0 => random.pick(EDGES, 0),
@@ -35,8 +35,7 @@ pub(crate) fn guest_offset(fields: &Fields, random: &mut Random) -> u64 {
     }
 }
 
-// An offset of the guest's disk that a cluster begins at: that of an entry that is listed, one just before
-// such an entry, or any.
+// A guest offset at the start of a cluster: that of a listed entry, of the cluster before one, or any.
 fn aligned_offset(fields: &Fields, listed: &[Listed], random: &mut Random) -> u64 {
     let index = random.below(listed.len() as u64) as usize;
     let offset = match (random.below(4), listed.get(index)) {
@@ -47,7 +46,7 @@ fn aligned_offset(fields: &Fields, listed: &[Listed], random: &mut Random) -> u6
     offset.wrapping_sub(fields.within_cluster(offset))
 }
 
-/// An index of an L1 entry: of one that names a table, if there is one, or of any other.
+/// The index of an L1 entry: mostly of one that names a table, if there is one, else any below 9.
 pub(crate) fn l1_index(tables: &[u64], random: &mut Random) -> u64 {
     if random.is_one_in(8) {
         return random.below(9);
@@ -55,7 +54,7 @@ pub(crate) fn l1_index(tables: &[u64], random: &mut Random) -> u64 {
     random.pick(tables, 0)
 }
 
-/// An index of an entry of a table that has this many, or just past its end.
+/// An index in a table of this many entries, or at or past its end.
 pub(crate) fn index(entries: u64, random: &mut Random) -> u64 {
     match random.below(12) {
         0 => entries,

@@ -1,4 +1,4 @@
-//! Whether edits of an L2 table are what `at` says afterwards, and are undone by others.
+//! Checks that `at` shows the edits of an L2 table, and that other edits undo them.
 
 use super::drawn;
 use super::readings::Readings;
@@ -9,10 +9,10 @@ use crate::random::Random;
 use crate::trial::Trial;
 use qcow2_base::Fault;
 
-/// How many entries are edited at once at most.
+/// The largest number of entries edited at once.
 const MOST_EDITS: u64 = 3;
 
-/// What an entry of a table is, as far as edits can make it again.
+/// The entries of a table that edits can restore.
 #[derive(Clone, Copy)]
 enum Entry {
     /// The number 0.
@@ -25,14 +25,14 @@ enum Entry {
     AllocatedZeros(u64),
 }
 
-/// Words of edits, and of those that undo them, each after a space.
+/// The words of edits, and of edits that undo them, each after a space.
 #[derive(Drop)]
 struct Undone {
     edits: String,
     undo: String,
 }
 
-/// Edits a table, and edits it back, and reports what isn't as before.
+/// Edits a table, undoes the edits, and reports what isn't as before.
 pub(crate) fn check_undone(
     trial: &mut Trial<'_>,
     random: &mut Random,
@@ -61,7 +61,7 @@ pub(crate) fn check_undone(
     trial.end_undone(line.as_str())
 }
 
-// The first entry that is edited: one that is listed, or any.
+// The first entry to edit: a listed one, or any.
 fn first_index(trial: &Trial<'_>, random: &mut Random, readings: &Readings) -> u64 {
     let fields = trial.fields;
     let entry = random.below(readings.listed.len() as u64) as usize;
@@ -73,7 +73,7 @@ fn first_index(trial: &Trial<'_>, random: &mut Random, readings: &Readings) -> u
     }
 }
 
-// Edits of entries in a row that can be undone.
+// Edits of consecutive entries that can be undone.
 fn drawn_edits(
     trial: &Trial<'_>,
     random: &mut Random,
@@ -95,7 +95,7 @@ fn drawn_edits(
     Ok(undone)
 }
 
-// What a number is, if edits can make it again.
+// The entry of a number, if edits can restore it.
 fn entry_of(number: u64, cluster_bits: u32) -> Option<Entry> {
     let cluster = (number & OFFSET) >> cluster_bits.min(21);
     match number {
@@ -138,7 +138,7 @@ fn add_undo(undone: &mut Undone, index: u64, entry: Entry) -> Result<(), Fault> 
     Ok(())
 }
 
-// Looks up the first edited entry, and reports what its edit doesn't say.
+// Looks up the first edited entry, and reports a mapping that its edit doesn't leave.
 fn check_edited(trial: &mut Trial<'_>, undone: &Undone, l1_index: u64) -> Result<(), Fault> {
     let Some((index, expected)) = expected_of(trial, undone)? else {
         return Ok(());
@@ -156,7 +156,7 @@ fn check_edited(trial: &mut Trial<'_>, undone: &Undone, l1_index: u64) -> Result
     Ok(())
 }
 
-// The index of the first edit, and what a mapping begins with that it leaves.
+// The index of the first edit, and the start of the mapping that it leaves.
 fn expected_of(trial: &Trial<'_>, undone: &Undone) -> Result<Option<(u64, String)>, Fault> {
     let alloc = trial.alloc;
     let word = undone.edits.as_str().split(' ').nth(1).unwrap_or("");
@@ -176,7 +176,7 @@ fn expected_of(trial: &Trial<'_>, undone: &Undone) -> Result<Option<(u64, String
     Ok(Some((index, expected)))
 }
 
-/// Makes edits that may be any.
+/// Makes arbitrary edits.
 pub(crate) fn run_any(trial: &mut Trial<'_>, random: &mut Random) -> Result<(), Fault> {
     let tables = trial.fields.named_tables(trial.alloc, trial.before)?;
     let l1_index = drawn::l1_index(tables.as_slice(), random);

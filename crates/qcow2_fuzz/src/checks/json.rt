@@ -1,10 +1,10 @@
-//! The list in JSON that `map` prints of extents.
+//! The JSON list of extents that `map` prints.
 
 use crate::text::{Content, Extent};
 use qcow2_base::Fault;
 use std::alloc::{AllocError, Global};
 
-/// The list of extents, or its start without an end where `map` is refused.
+/// The list of extents, without the closing bracket if `map` was refused.
 pub(crate) fn rows_of(alloc: Global, extents: &[Extent], is_whole: bool) -> Result<String, Fault> {
     let mut rows = String::from_str(alloc, "[")?;
     for extent in extents {

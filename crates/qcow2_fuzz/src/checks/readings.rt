@@ -1,4 +1,4 @@
-//! What the commands that only read find of an image.
+//! The results of the commands that only read.
 
 use super::drawn;
 use crate::kinds::Kind;
@@ -7,7 +7,7 @@ use crate::text::{Extent, Listed, Totals, extents_in, listed_in, totals_in};
 use crate::trial::{Answer, Trial};
 use qcow2_base::Fault;
 
-/// What commands returned and printed.
+/// The results and the parsed output of commands.
 #[derive(Drop)]
 pub(crate) struct Readings {
     pub(crate) list: Answer,
@@ -21,13 +21,13 @@ pub(crate) struct Readings {
 }
 
 impl Readings {
-    /// Whether the tables of the image lie apart, as far as `check` says it.
+    /// Whether the tables of the image don't overlap, as far as `check` shows.
     pub(crate) fn lie_apart(&self) -> bool {
         self.check.is_ok() && self.totals.shared == 0 && self.has_distinct_tables
     }
 }
 
-/// Runs `list`, `map` and `check`, and those whose text is compared with nothing.
+/// Runs `list`, `map` and `check`, and `l2` on any cluster.
 pub(crate) fn read(trial: &mut Trial<'_>, random: &mut Random) -> Result<Readings, Fault> {
     let (list, listed) = read_list(trial)?;
     let (map, extents) = read_map(trial)?;
@@ -66,7 +66,7 @@ fn read_map(trial: &mut Trial<'_>) -> Result<(Answer, Vec<Extent>), Fault> {
     }
 }
 
-/// Runs `check`, and returns its totals too. Where it is refused, there are none.
+/// Runs `check`, and returns its totals too: zeros if it is refused.
 pub(crate) fn read_check(trial: &mut Trial<'_>) -> Result<(Answer, Totals), Fault> {
     let check = trial.run(Kind::Check, "check IMAGE")?;
     let is_short = trial
@@ -94,7 +94,7 @@ pub(crate) fn read_check(trial: &mut Trial<'_>) -> Result<(Answer, Totals), Faul
     }
 }
 
-// Runs `l2` on a cluster that may be anything.
+// Runs `l2` on any cluster.
 fn run_l2_anywhere(trial: &mut Trial<'_>, random: &mut Random) -> Result<(), Fault> {
     let cluster = drawn::cluster(&trial.fields, random);
     let cluster_bits = random.below(5).saturating_add(9);

@@ -1,4 +1,5 @@
-//! Whether a repair leaves what it prints, needs no second one, and keeps what the disk reads as.
+//! Checks that a repair leaves what it prints, that a second one changes nothing, and that the disk reads
+//! as before.
 
 use super::readings::Readings;
 use crate::kinds::Kind;
@@ -6,7 +7,7 @@ use crate::text::{extents_in, totals_in};
 use crate::trial::Trial;
 use qcow2_base::Fault;
 
-/// Repairs the image, and reports what isn't so.
+/// Repairs the image, and reports what doesn't hold.
 pub(crate) fn check_repair(trial: &mut Trial<'_>, readings: &Readings) -> Result<(), Fault> {
     let line = "check IMAGE repair";
     let repair = trial.run(Kind::Repair, line)?;
@@ -20,7 +21,7 @@ pub(crate) fn check_repair(trial: &mut Trial<'_>, readings: &Readings) -> Result
     let check = trial.run(Kind::Check, "check IMAGE")?;
     let is_same = check == repair && trial.printed().as_bytes() == printed.as_slice();
     trial.unless(is_same, line, "what `check` prints then", "other findings");
-    // left are clusters that no block counts, and flags of entries that name them
+    // clusters that no block counts may stay, and flags of entries that name them
     let is_repaired = totals_in(trial.printed()).is_some_and(|totals| totals.leaked == 0
         && totals.shared == 0
         && totals.late_flags == 0);

@@ -1,9 +1,9 @@
-//! The counters of an image that is made: as many as its clusters have uses.
+//! The refcounts of a made image: the numbers of references to its clusters.
 
 use super::{BLOCK, Draft};
 use crate::numbers::{byte_at, put_bytes};
 
-/// Puts the counter of each cluster that the block counts.
+/// Puts the refcount of each cluster that the block counts.
 pub(super) fn put_counters(draft: &mut Draft) {
     let block = BLOCK.wrapping_mul(draft.cluster_size());
     let order = draft.refcount_order.min(6);
@@ -14,7 +14,7 @@ pub(super) fn put_counters(draft: &mut Draft) {
     }
 }
 
-// Puts a counter of a block whose counters have 2^order bits.
+// Puts a refcount of 2^order bits into a block.
 fn put_counter(bytes: &mut [u8], block: u64, order: u32, index: u64, counter: u64) {
     if order < 3 {
         return put_narrow_counter(bytes, block, order, index, counter);
@@ -33,7 +33,7 @@ fn put_counter(bytes: &mut [u8], block: u64, order: u32, index: u64, counter: u6
     }
 }
 
-// The same of counters that share a byte, the first one in its lowest bits.
+// Does the same for refcounts that share a byte, the first one in its lowest bits.
 fn put_narrow_counter(bytes: &mut [u8], block: u64, order: u32, index: u64, counter: u64) {
     let width = 1u64 << order.min(2);
     let bit = index.wrapping_mul(width);

@@ -1,10 +1,10 @@
-//! What follows the first fields of a header: features, extensions, and the backing file's name.
+//! The rest of a header: features, extensions and the backing file's name.
 
 use super::Draft;
 use crate::numbers::{put_bytes, put_u32, put_u64};
 use crate::random::Random;
 
-/// Types of extensions, and what data each has.
+/// Types of extensions, and their data.
 const EXTENSIONS: &[(u32, &[u8])] = &[
     (0xe279_2aca, b"raw"),
     (0xe279_2aca, b"qcow2"),
@@ -15,13 +15,13 @@ const EXTENSIONS: &[(u32, &[u8])] = &[
     (0x0000_0007, b""),
 ];
 
-/// Those of parts that a check refuses: bitmaps, and an encryption header.
+/// Types of extensions that a check refuses: bitmaps, and an encryption header.
 const UNCOUNTED: &[u32] = &[0x2385_2875, 0x0537_be77];
 
 /// Names of backing files.
 const NAMES: &[&[u8]] = &[b"base.img", b"", b"a", b"b\xc3\xa4se", b"json:{}"];
 
-/// Puts all of it. A header of version 2 has a name alone.
+/// Puts the rest of a header, which in version 2 is at most a name.
 pub(super) fn put_extensions(draft: &mut Draft, random: &mut Random) {
     let end = if draft.version == 3 {
         put_features(draft, random);

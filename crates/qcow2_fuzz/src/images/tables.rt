@@ -1,11 +1,11 @@
-//! L1 and L2 tables of an image that is made, and the clusters that they use.
+//! L1 and L2 tables of a made image, and the clusters that they refer to.
 
 use super::{Draft, L1_TABLE};
 use crate::fields::COPIED;
 use crate::numbers::{put_u64, u64_at};
 use crate::random::Random;
 
-/// How many entries of a table are made at most.
+/// An exclusive bound on the number of entries put into a table.
 const MOST_ENTRIES: u64 = 12;
 
 /// Puts the L1 table, and the L2 tables that it names.
@@ -23,7 +23,7 @@ pub(super) fn put_tables(draft: &mut Draft, random: &mut Random) {
     }
 }
 
-// Puts entries of the L2 table at an offset: many in a row, or some that lie anywhere.
+// Puts entries into the L2 table at an offset: consecutive ones, or some at random indices.
 fn put_l2_table(draft: &mut Draft, random: &mut Random, offset: u64) {
     let entries = draft.cluster_size() / 8;
     let first = random.below(entries);
@@ -50,7 +50,7 @@ fn put_entry(draft: &mut Draft, random: &mut Random, place: u64) {
     }
 }
 
-// The number of an entry, whose clusters are used by it.
+// Draws an entry, and counts the references to its clusters.
 fn drawn_entry(draft: &mut Draft, random: &mut Random) -> Option<u64> {
     match random.below(8) {
         0 if draft.version == 3 => Some(1),
@@ -60,7 +60,7 @@ fn drawn_entry(draft: &mut Draft, random: &mut Random) -> Option<u64> {
     }
 }
 
-// An entry of data in a cluster of its own, of the external data file where there is one.
+// An entry of data in a cluster of its own, or in the external data file if there is one.
 fn data_entry(draft: &mut Draft, random: &mut Random) -> Option<u64> {
     let cluster = if draft.is_external {
         random.below(20)
@@ -71,7 +71,8 @@ fn data_entry(draft: &mut Draft, random: &mut Random) -> Option<u64> {
     Some(flag | cluster.wrapping_mul(draft.cluster_size()))
 }
 
-// An entry of compressed data within a cluster: that of the last one, where its counter has room.
+// An entry of compressed data within a cluster. If refcounts have room, the next reference may share that
+// cluster.
 fn compressed_entry(draft: &mut Draft, random: &mut Random) -> Option<u64> {
     let cluster = draft.take_cluster()?;
     let cluster_size = draft.cluster_size();
