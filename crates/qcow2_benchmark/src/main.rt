@@ -1,5 +1,6 @@
-//! How long tables take to be loaded from an image in memory, edited, and written to one. It prints the least
-//! time of a round in nanoseconds to standard error: `scripts/benchmark` runs it beside plain Rust.
+//! Measures how long it takes to load tables from an image in memory, to edit them, and to write them to
+//! one. Prints the least time of a round in nanoseconds to standard error: `scripts/benchmark` runs it
+//! beside plain Rust.
 #![tactic(auto)]
 
 use anyhow::Result;
@@ -10,16 +11,16 @@ use std::alloc::{AllocError, Global};
 use std::env;
 use std::time::{CpuClock, Duration};
 
-/// Which entries a table has.
+/// The entries of a table.
 #[derive(Clone, Copy)]
 enum Entries {
     /// Each maps its guest cluster to data.
     Data,
-    /// Data, zeros, compressed data and nothing, in no order that can be guessed.
+    /// Data, zeros, compressed data and unmapped entries, in no predictable order.
     Mixed,
 }
 
-/// Runs as many rounds as the first word says, or one.
+/// Runs as many rounds as the first argument says, or one.
 fn main(rt: HostRuntime) -> Result<()> {
     let rounds = rounds(&rt)?;
     for (name, entries) in [("data", Entries::Data), ("mixed", Entries::Mixed)] {
@@ -37,20 +38,20 @@ fn rounds(rt: &HostRuntime) -> Result<u32> {
     }
 }
 
-// The time now, after that since a start was taken into the least of its kind.
+// Returns the time now, and lowers `least` to the time since `start` if that is less.
 fn lap(rt: &HostRuntime, start: Duration, least: &mut Duration) -> Result<Duration> {
     let now = rt.thread_cpu_time()?;
     *least = (*least).min(now.saturating_sub(start));
     Ok(now)
 }
 
-// Prints the least time of a work over that many entries.
+// Prints the least time of a kind of work on this many entries.
 fn tell(rt: &HostRuntime, work: &str, entries: &str, count: usize, least: Duration) -> Result<()> {
     eprintln!(rt; "{work}{entries} {count} {}", least.as_nanos())?;
     Ok(())
 }
 
-// The least time of a load and of a write of an L2 table that fills a cluster.
+// Measures a load and a write of an L2 table that fills a cluster.
 fn measure(
     rt: &HostRuntime,
     name: &str,
@@ -85,7 +86,8 @@ fn time_table(
     Ok(())
 }
 
-// Images of an L2 table of 262144 entries and of a block, and 8192 edits of the table. Clusters have 2 MiB.
+// An image of an L2 table with 262144 entries, one of a block, and 8192 edits of the table. Clusters have 2
+// MiB.
 #[derive(Drop)]
 struct Edited {
     header: Header,
@@ -94,7 +96,7 @@ struct Edited {
     edits: Vec<Edit>,
 }
 
-// The least times of a copy of a table, of edits of it, and of the same together with their counters.
+// The least times to copy a table, to edit it, and to edit it together with its refcounts.
 #[derive(Clone, Copy)]
 struct EditTimes {
     copied: Duration,
@@ -127,7 +129,7 @@ fn measure_edits(rt: &HostRuntime, rounds: u32) -> Result<()> {
     tell(rt, "settled", "", 8192, times.settled)
 }
 
-// Makes the edits of a table and a block that are loaded anew.
+// Measures edits of a table and a block, both loaded anew.
 fn measure_round(rt: &HostRuntime, edited: &mut Edited, times: &mut EditTimes) -> Result<()> {
     let mut table = load_table(rt.alloc(), &mut edited.image, &edited.header)?;
     let mut block = load_block(rt.alloc(), &mut edited.counters, &edited.header)?;
@@ -151,7 +153,7 @@ fn time_edits(
     Ok(())
 }
 
-// Each maps another cluster in place of the one that the entry has.
+// Edits that each map an entry to another cluster.
 fn edits_of_every_32nd_entry(alloc: Global) -> Result<Vec<Edit>, AllocError> {
     let mut edits = Vec::new(alloc);
     for at in 0..8192 {
@@ -163,7 +165,7 @@ fn edits_of_every_32nd_entry(alloc: Global) -> Result<Vec<Edit>, AllocError> {
     Ok(edits)
 }
 
-// A block of 2 MiB whose counters are all 1, of 16 bits each.
+// An image of a refcount block of 2 MiB, whose refcounts of 16 bits are all 1.
 fn image_of_ones(alloc: Global) -> Result<MemStorage, AllocError> {
     let mut bytes = Vec::new(alloc);
     for _ in 0..1u32 << 20 {
@@ -172,7 +174,7 @@ fn image_of_ones(alloc: Global) -> Result<MemStorage, AllocError> {
     Ok(MemStorage::new(bytes))
 }
 
-// An image whose second cluster is a table.
+// An image whose second cluster is an L2 table.
 fn image_with(alloc: Global, header: &Header, entries: Entries) -> Result<MemStorage, AllocError> {
     let mut bytes = vec![in alloc; 0u8; header.cluster_size()]?;
     for index in 0..header.l2_entries() {
@@ -181,7 +183,7 @@ fn image_with(alloc: Global, header: &Header, entries: Entries) -> Result<MemSto
     Ok(MemStorage::new(bytes))
 }
 
-// The number of an entry: valid under each cluster size.
+// The number of an entry, valid for each cluster size.
 fn number(index: u64, entries: Entries) -> u64 {
     let data = (1 << 63) + (index % (1 << 20) << 21);
     match entries {
@@ -195,8 +197,8 @@ fn number(index: u64, entries: Entries) -> u64 {
     }
 }
 
-// The calls that are measured are in functions of their own, so that no proof of a measurement has to read
-// what they ensure.
+// The measured calls are in functions of their own, so that no proof about a measurement has to read their
+// contracts.
 
 fn header_with(alloc: Global, cluster_bits: u32) -> Result<Header, Fault> {
     if cluster_bits < 9 || cluster_bits > 21 {

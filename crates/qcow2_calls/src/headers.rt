@@ -20,7 +20,7 @@ pub fn into_writable<S: Storage>(header: Header, image: &mut S) -> Result<Header
     header.into_writable(image)
 }
 
-// The name as a text of its own, if there is one.
+// Copies a name, if there is one.
 fn text(alloc: Global, name: Option<&str>) -> Result<Option<String>, AllocError> {
     name.map(|name| String::from_str(alloc, name)).transpose()
 }
@@ -43,7 +43,7 @@ pub fn new_header(
     Header::new(alloc, cluster_bits, refcount_order, name, format, data_file)
 }
 
-/// A new header without a backing file, whose guest data may be in an external data file.
+/// A new header without a backing file, with an external data file or without.
 pub fn header_of(
     alloc: Global,
     cluster_bits: u32,

@@ -1,7 +1,7 @@
-//! The calls of `qcow2_metadata` without their clauses. Tests compare what comes of a call with their tables,
-//! and no proof about a test has to read what the call ensures.
+//! The calls of `qcow2_metadata` without their contracts. Tests compare the results of calls with their
+//! tables, and no proof about a test has to read a call's contract.
 //!
-//! A call whose `requires` doesn't hold isn't made: it is the fault `NOT_MADE`.
+//! A call whose `requires` doesn't hold isn't made, and returns the fault `NOT_MADE`.
 #![tactic(auto)]
 
 mod blocks;
@@ -25,13 +25,13 @@ pub use tables::{
     write_l2_table_if_modified, write_table, zero_cluster,
 };
 
-/// The fault of a call that is not made. No call here returns it otherwise.
+/// The fault of a call that isn't made. No call here returns it otherwise.
 pub const NOT_MADE: Fault = Fault::WrongLength;
 
-/// The fault of a call, and the pending clusters that it handed back, if there were some.
+/// The fault of a call, and the pending clusters that it handed back, if any.
 pub type Refusal = (Fault, Option<ClustersToFreeEntry>);
 
-// Gives the clusters up that a refusal hands back.
+// Gives up the pending clusters that a refusal hands back.
 fn given_up(answer: Result<(), Refused>) -> Result<(), Refusal> {
     let Err(Refused { fault, pending }) = answer else {
         return Ok(());

@@ -14,9 +14,9 @@ use qcow2_metadata::{
 use qcow2_testing::fits;
 use std::alloc::Global;
 
-/// A kind of table that is loaded.
+/// A kind of table that can be loaded.
 pub trait LoadedTable: Table + Drop {
-    /// Whether a table of an image with this header may have that many entries.
+    /// Whether a table of an image with this header may have this many entries.
     fn may_have(header: &Header, entries: usize) -> bool
         ensures { IsTrue result → IsTrue (Self.kind.has_valid_count header.now.v2.cluster_bits entries) };
 }
@@ -93,7 +93,7 @@ pub fn grow_reftable(table: &RefTable, header: &Header, index: usize) -> Result<
     table.clone_and_grow(header, index)
 }
 
-/// `least_spare`, and the turns that it took.
+/// `least_spare`, with the number of turns that it took.
 pub fn least_spare(len: usize, index: usize, header: &Header) -> (Option<usize>, usize) {
     if index >= RefTable::MAX_ENTRIES {
         return (None, 0);
@@ -141,7 +141,7 @@ pub fn set_cluster<T: Table>(table: &mut T, cluster: HostCluster) -> Result<(), 
     Ok(())
 }
 
-// ---- What is entered in tables and in headers
+// ---- Entering tables and blocks in other tables and in headers
 
 /// `Header::set_l1_table`, with these pending clusters.
 pub fn set_l1_table(
@@ -264,7 +264,7 @@ pub fn set_l1_copied(table: &mut L1Table, index: usize, is_copied: bool) -> Resu
     Ok(())
 }
 
-// ---- What these calls require
+// ---- Conditions of these calls
 
 fn to_pending(clusters: ClustersToFreeEntry) -> PendingClusters
     ensures { result ≡ clusters }
@@ -272,8 +272,8 @@ fn to_pending(clusters: ClustersToFreeEntry) -> PendingClusters
     PendingClusters::new(clusters.first, clusters.count)
 }
 
-// Whether pending clusters, if there are some, may be handed in for what begins with this cluster and takes
-// this number of them: they are those, or it has no cluster.
+// Whether pending clusters, if there are any, may be handed in for a table of `count` clusters that begins
+// at this cluster: they are those clusters, or the table has no cluster.
 fn may_be_spent(
     pending: Option<ClustersToFreeEntry>,
     cluster: Option<HostCluster>,

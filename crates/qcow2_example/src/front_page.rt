@@ -6,7 +6,7 @@ use qcow2_session::{ChangedClusters, GuestEdit, apply_edits};
 use std::alloc::AllocGlobal;
 use std::rt::Files;
 
-/// Leaves a range of the disk in an image file to the backing file. Returns what becomes of its clusters.
+/// Discards a range of the disk in an image file. Returns the clusters that this changes.
 pub fn discard_range<R: Files + AllocGlobal>(
     rt: &R,
     path: &str,

@@ -1,4 +1,4 @@
-//! First programs with the libraries: that of the front page, and one that loads tables by itself.
+//! First programs with the libraries: that of the front page, and one that loads the tables itself.
 #![tactic(auto)]
 
 mod front_page;
@@ -10,8 +10,8 @@ use qcow2_session::{Edit, Outcome, edit_settled, lookup};
 use std::alloc::AllocGlobal;
 use std::rt::Files;
 
-/// Takes the data of the cluster at a guest offset away, in an image file, and counts that. Returns
-/// nothing, and writes neither table nor block, where the offset isn't mapped to data.
+/// Discards the data of the cluster at a guest offset, in an image file, and lowers its refcount. Returns
+/// nothing, and writes neither table nor block, if the offset isn't mapped to data.
 pub fn discard<R: Files + AllocGlobal>(
     rt: &R,
     path: &str,
@@ -21,7 +21,7 @@ pub fn discard<R: Files + AllocGlobal>(
     let mut image = FileStorage::open(rt, path, true)?;
     let header = Header::load(alloc, &mut image, true)?;
     let bits = header.cluster_bits();
-    // What the offset reads as, and the L2 table that says so.
+    // The mapping of the offset, and the L2 table that has it.
     let cluster = header.l1_table_offset().cluster(bits);
     let entries = header.l1_table_entries();
     let l1_table = L1Table::load(alloc, &mut image, &header, cluster, entries)?;
@@ -40,11 +40,11 @@ pub fn discard<R: Files + AllocGlobal>(
     let block_offset = reftable.get(rt_index).refblock_offset();
     let cluster = block_offset.ok_or(Fault::NotPlaced)?.cluster(bits);
     let mut block = RefBlock::load(alloc, &mut image, &header, cluster)?;
-    // Both change in memory, or neither does.
+    // Changes both in memory, or neither.
     let index = offset.l2_index(bits);
     let edits = [Edit::Discard { index }];
     let outcome = edit_settled(alloc, &mut table, &mut block, &header, rt_index, &edits)?;
-    // The table first: a crash between leaves a cluster that is counted and not used, and no worse.
+    // The table first: a crash in between leaks a cluster, and does nothing worse.
     table.write(&mut image)?;
     block.write(&mut image)?;
     Ok(Some(outcome))

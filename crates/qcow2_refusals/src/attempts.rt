@@ -1,4 +1,4 @@
-//! A run that has begun, and whether all stands that must after its call.
+//! A run under way, and the checks after its call.
 
 use crate::calls::Answer;
 use crate::held::{Held, MOST_NUMBERS, Shown, hold};
@@ -6,18 +6,18 @@ use crate::runs::Run;
 use qcow2_base::{Fault, MemStorage};
 use std::alloc::Global;
 
-/// Why a run isn't as it must be.
+/// The part of a run that is wrong.
 #[derive(Clone, Copy, Debug)]
 pub(crate) enum Wrong {
-    /// What it begins with could not be made.
+    /// Its preparation failed.
     Beginning,
-    /// No refusal explains what the call returned.
+    /// The call's result, which no refusal explains.
     Answer,
     /// The image's bytes.
     Image,
-    /// What the call reported.
+    /// The text that the call reported.
     Report,
-    /// What the call works on beside the image.
+    /// The values that the call works on besides the image.
     Held,
 }
 
@@ -27,7 +27,7 @@ impl From<Fault> for Wrong {
     }
 }
 
-/// Says that this is wrong, unless it holds.
+/// Fails with `wrong` unless something holds.
 pub(crate) fn unless(holds: bool, wrong: Wrong) -> Result<(), Wrong> {
     if holds {
         return Ok(());
@@ -35,8 +35,8 @@ pub(crate) fn unless(holds: bool, wrong: Wrong) -> Result<(), Wrong> {
     Err(wrong)
 }
 
-/// What a run works on, the numbers that it showed at first and those that it shows, and its image before the
-/// call and after it.
+/// The values of a run, the numbers that they showed at first and show now, and its image before and after
+/// the call.
 #[derive(Drop)]
 pub(crate) struct Attempt {
     pub(crate) held: Held,
@@ -71,8 +71,8 @@ pub(crate) fn begin(alloc: Global, run: &Run) -> Result<Attempt, Fault> {
 }
 
 impl Attempt {
-    /// Fails unless all stands that must after this answer: what the call reported, what it works on, and
-    /// the image, whose bytes are these now.
+    /// Fails unless everything is right after this answer: the call's report, the values that it works on,
+    /// and the image, which has these bytes now.
     pub(crate) fn check(&mut self, run: &Run, answer: Answer, image: &[u8]) -> Result<(), Wrong> {
         unless(answer != Answer::Other, Wrong::Answer)?;
         let is_done = answer == Answer::Done;
@@ -87,21 +87,21 @@ impl Attempt {
         unless(self.held_stands(changes), Wrong::Held)
     }
 
-    // All is reported, or a beginning of it where the call was refused.
+    // Whether the whole report is there, or a first part of it if the call was refused.
     fn report_stands(&self, run: &Run, answer: Answer) -> bool {
         let (all, reported) = (run.reports.as_bytes(), self.held.out.as_slice());
         let is_long_enough = answer != Answer::Done || reported.len() == all.len();
         is_long_enough && all.get(..reported.len()) == Some(reported)
     }
 
-    // It shows the numbers that it showed at first, but for these.
+    // Whether the values show their first numbers, apart from these changes.
     fn held_stands(&mut self, changes: &[(usize, u64)]) -> bool {
         self.held.show(&mut self.shown);
         takes_all_back(&mut self.shown.0, &self.first.0, changes)
     }
 }
 
-// Puts the old numbers back where these stand, and returns whether all are old then.
+// Puts the old numbers back in place of the changes, and returns whether all numbers are old then.
 fn takes_all_back(numbers: &mut [u64], first: &[u64], changes: &[(usize, u64)]) -> bool {
     for change in changes {
         if !takes_back(numbers, first, *change) {
@@ -111,7 +111,7 @@ fn takes_all_back(numbers: &mut [u64], first: &[u64], changes: &[(usize, u64)]) 
     *numbers == *first
 }
 
-// Puts the old number back where this stands.
+// Puts the old number back in place of a change, and returns whether the change was there.
 fn takes_back(numbers: &mut [u64], first: &[u64], (index, number): (usize, u64)) -> bool {
     let (Some(now), Some(old)) = (numbers.get_mut(index), first.get(index)) else {
         return false;

@@ -1,4 +1,4 @@
-//! The calls of runs.
+//! Makes the calls of runs.
 
 mod commands;
 mod copies;
@@ -13,7 +13,7 @@ use qcow2_calls::{write_header, write_l1_table_pointer, write_reftable_pointer, 
 use std::fmt::Debug;
 use std::io::Write;
 
-/// What a call returned, as far as refusals go.
+/// The result of a call, as far as refusals matter.
 #[derive(Clone, Copy, PartialEq, Eq)]
 pub(crate) enum Answer {
     Done,
@@ -62,7 +62,7 @@ fn make_call<S: Device>(call: Call, held: &mut Held, image: &mut S) -> Result<()
     }
 }
 
-// Writes what a value prints as by `Debug`.
+// Writes the `Debug` form of a value.
 fn tell<T: Debug>(out: &mut Vec<u8>, value: &T) -> Result<(), Fault> {
     match write!(out, "{value:?}") {
         Ok(()) => Ok(()),

@@ -1,4 +1,4 @@
-//! What a call works on beside an image, and what it shows of itself.
+//! The values that a call works on besides an image, and the numbers that they show.
 
 use crate::runs::{HeaderOf, Image, Run, image_of};
 use qcow2_base::{Fault, HostCluster, MemStorage};
@@ -10,19 +10,19 @@ use qcow2_testing::sample_image::{DATA_ENTRY, L1_TABLE, L2_TABLE};
 use qcow2_testing::{COPIED, VERSION_3, rows};
 use std::alloc::Global;
 
-/// The cluster that each table begins with.
+/// The first cluster of each table.
 pub(crate) const TABLES: HostCluster = HostCluster(1);
 
-/// The cluster that the block begins with.
+/// The cluster of the block.
 pub(crate) const BLOCK: HostCluster = HostCluster(2);
 
-/// More numbers than are shown of any of them.
+/// More numbers than any run shows.
 pub(crate) const MOST_NUMBERS: usize = 1 << 17;
 
-/// More bytes than any call reports, so that no write of them asks for memory.
+/// More bytes than any call reports, so that writing them allocates nothing.
 const MOST_REPORTED: usize = 4096;
 
-/// The sample image of the tests, and a cluster of zeros: a disk of 64 clusters of 512 bytes, of which guest
+/// The sample image of the tests, and a cluster of zeros: a disk of 64 clusters of 512 bytes, whose guest
 /// cluster 3 is the data in host cluster 5.
 pub(crate) const DISK: Image = Image {
     len: 2048,
@@ -45,7 +45,7 @@ pub(crate) struct Held {
     pub(crate) out: Vec<u8>,
 }
 
-/// What a run's call begins with.
+/// Makes the values for a run's call.
 pub(crate) fn hold(alloc: Global, run: &Run) -> Result<Held, Fault> {
     let mut image = image_of(alloc, run.source)?;
     let header = described_header(alloc, run)?;
@@ -59,7 +59,7 @@ pub(crate) fn hold(alloc: Global, run: &Run) -> Result<Held, Fault> {
     Ok(held)
 }
 
-/// The same over an image, by this header.
+/// Makes the values over an image, with this header.
 pub(crate) fn hold_over(
     alloc: Global,
     image: &mut MemStorage,
@@ -89,7 +89,7 @@ fn described_header(alloc: Global, run: &Run) -> Result<Header, Fault> {
     }
 }
 
-/// The header of the disk, where its size is this.
+/// The header of the disk, with this size in bytes.
 pub(crate) fn disk_header(alloc: Global, size: u64) -> Result<Header, Fault> {
     let mut image = image_of(alloc, DISK)?;
     let mut header = load_header(alloc, &mut image, false)?;
@@ -97,9 +97,9 @@ pub(crate) fn disk_header(alloc: Global, size: u64) -> Result<Header, Fault> {
     Ok(header)
 }
 
-// ---- What it shows
+// ---- The numbers that they show
 
-/// A list of numbers that has room for all that are shown, so that none asks for memory.
+/// A list with room for all numbers shown, so that adding one allocates nothing.
 #[derive(Drop)]
 pub(crate) struct Shown(pub(crate) Vec<u64>);
 
@@ -114,8 +114,9 @@ impl Shown {
 }
 
 impl Held {
-    /// Shows all that it says: the flags of L1 table, L2 table, refcount table and block, what the header
-    /// says from place 4 on, and then cluster and numbers of L2 table, block, L1 table and refcount table.
+    /// Shows everything: whether L1 table, L2 table, refcount table and block are modified (places 0 to 3),
+    /// the header (from place 4 on), and then cluster and numbers of L2 table, block, L1 table and refcount
+    /// table.
     pub(crate) fn show(&self, shown: &mut Shown) {
         shown.0.clear();
         shown.note(self.l1_table.is_modified());
@@ -154,7 +155,7 @@ fn show_block(block: &RefBlock, shown: &mut Shown) {
     }
 }
 
-// Shows the number of a cluster, or a number that none has.
+// Shows the number of a cluster, or a number that no cluster has.
 fn show_cluster(cluster: Option<HostCluster>, shown: &mut Shown) {
     match cluster {
         Some(cluster) => shown.add(cluster.0),

@@ -1,10 +1,10 @@
-//! Makes each call of the library that takes memory, reports what isn't as it must be, and prints how many
-//! runs there are.
+//! Makes each call of the library that allocates memory, reports wrong results, and prints the number of
+//! runs.
 //!
-//! `scripts/refuse-each-allocation` runs it with the number of each run, and refuses each of its requests for
-//! memory in turn. With `once` and with `often` it makes calls that must take no memory, once or a thousand
-//! times; with `settled` and with `refused` it makes edits that the counters follow, or can't: all memory is
-//! taken before they are looked at.
+//! `scripts/refuse-each-allocation` runs it with the number of each run, and refuses each of its
+//! allocations in turn. With `once` and `often` it makes calls that must allocate nothing, once or a
+//! thousand times. With `settled` and `refused` it makes edits whose refcounts follow or can't follow:
+//! these must allocate everything before the edits are looked at.
 #![tactic(auto)]
 
 mod attempts;
@@ -34,13 +34,13 @@ fn main(rt: HostRuntime) -> ExitCode {
     }
 }
 
-// The word after the name, or an empty one.
+// The first argument, or an empty text.
 fn first_word(rt: &HostRuntime) -> io::Result<String> {
     let word = env::args(rt)?.nth(1);
     Ok(word.unwrap_or(String::new(rt.alloc())))
 }
 
-// Does what the word says, and returns whether all was as it must be.
+// Does what the argument asks for, and returns whether everything was right.
 fn does<O: Write>(rt: &HostRuntime, word: &str, out: &mut O) -> bool {
     match word {
         "" => make_each(rt, Selected::All, out),
@@ -55,7 +55,7 @@ fn does<O: Write>(rt: &HostRuntime, word: &str, out: &mut O) -> bool {
     }
 }
 
-// Makes the runs that are selected.
+// Makes the selected runs.
 fn make_each<O: Write>(rt: &HostRuntime, selected: Selected, out: &mut O) -> bool {
     let Ok(path) = again(|| temporary_path(rt)) else {
         return false;
@@ -75,7 +75,7 @@ fn make_each<O: Write>(rt: &HostRuntime, selected: Selected, out: &mut O) -> boo
     writeln!(out, "{runs} runs").is_ok() && all_right && runs > 0
 }
 
-// Where the file of a run lies.
+// The path of a run's file.
 fn temporary_path(rt: &HostRuntime) -> io::Result<String> {
     let id = process::id(rt.process());
     let name = format!(in rt.alloc(); "qcow2-refusals-{id}")?;
@@ -83,7 +83,7 @@ fn temporary_path(rt: &HostRuntime) -> io::Result<String> {
     Ok(path.into_string())
 }
 
-// Makes the calls that take no memory, and returns whether each did what it is to do.
+// Makes the calls that allocate nothing, and returns whether each did its work.
 fn make_calls<O: Write>(rt: &HostRuntime, turns: u64, out: &mut O) -> bool {
     let Ok(checks) = without_memory::make_calls(rt, turns) else {
         return false;

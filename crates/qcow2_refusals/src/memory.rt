@@ -1,7 +1,8 @@
-//! Each run over an image in memory and over a file, made once more where memory was refused the first time.
+//! Makes each run over an image in memory and over a file, and repeats it if memory is refused the first
+//! time.
 //!
-//! A refusal comes from outside, once in the life of the program: what a run begins with is made once more
-//! too, so that all runs are made whichever request it meets.
+//! A refusal comes from outside, once in the life of the program. The preparation of a run is repeated too,
+//! so all runs are made, whichever allocation is refused.
 
 use crate::attempts::{Attempt, Wrong, begin, unless};
 use crate::calls::{Answer, make};
@@ -12,32 +13,32 @@ use std::alloc::Global;
 use std::fs;
 use std::io::Write;
 
-/// Which runs are made.
+/// The runs to make.
 #[derive(Clone, Copy)]
 pub(crate) enum Selected {
     All,
     /// Those of this call.
     Call(Call),
-    /// The one of this number, from 1 on.
+    /// The one with this number, from 1 on.
     Number(u64),
 }
 
-/// Makes each run, and reports those that aren't as they must be.
+/// Makes the selected runs, and reports wrong ones.
 #[derive(Drop)]
 pub(crate) struct Memory<'a, O> {
     pub(crate) rt: &'a HostRuntime,
     pub(crate) out: &'a mut O,
-    /// Where the file of a run lies.
+    /// The path of a run's file.
     pub(crate) path: &'a str,
     pub(crate) selected: Selected,
-    /// How many runs were passed by or made, and how many were made.
+    /// The number of runs seen, selected or not, and of runs made.
     pub(crate) passed: u64,
     pub(crate) made: u64,
     pub(crate) all_right: bool,
 }
 
 impl<O: Write> Memory<'_, O> {
-    /// Makes the runs.
+    /// Makes the selected runs.
     pub(crate) fn make_all(&mut self) {
         self.make_each(headers::runs());
         self.make_each(tables::runs());
@@ -77,7 +78,7 @@ impl<O: Write> Memory<'_, O> {
     }
 }
 
-/// Makes a call, and once more where memory was refused the first time.
+/// Makes a call, and repeats it if it fails the first time.
 pub(crate) fn again<T: Drop, E: Drop, F: Fn() -> Result<T, E>>(call: F) -> Result<T, E>
     requires { F.IsAlwaysCallable call }
 {
@@ -137,8 +138,8 @@ fn make_in_file(
     Err(Wrong::Answer)
 }
 
-// Returns whether all is done. Fails unless all stands that must after this answer: a refusal of memory,
-// which is one of the storage where that had to grow, or none.
+// Returns whether the call succeeded. Fails unless everything is right after this answer. A call may fail
+// because memory runs out, or by the storage fault if the image had to grow.
 fn has_done(run: &Run, attempt: &mut Attempt, answer: Answer, image: &[u8]) -> Result<bool, Wrong> {
     let may_fail = answer != Answer::StorageFailed || attempt.grows;
     unless(may_fail, Wrong::Answer)?;

@@ -1,4 +1,5 @@
-//! The runs. One function names each table, since each that does pays in its proof for all rows.
+//! The runs. Each table is named in one function only, since every proof that names it pays for all its
+//! rows.
 
 pub(crate) mod blocks;
 pub(crate) mod headers;
@@ -9,7 +10,7 @@ pub(crate) mod tables;
 
 use crate::runs::{Call, EMPTY, HeaderOf, Run};
 
-// A run of no image, and of tables and a block that have no bytes.
+// A run without an image, whose tables and block have no bytes.
 const RUN: Run = Run {
     call: Call::NewHeader,
     header: HeaderOf::New(9, 4),

@@ -1,10 +1,10 @@
-//! What a run is: a call of the library, what it begins with, and what must stand after it.
+//! Runs: a call of the library, the values that it begins with, and what must hold after it.
 
 use qcow2_base::{Fault, MemStorage};
 use qcow2_testing::put_all;
 use std::alloc::Global;
 
-/// A call, and what it is made on.
+/// A call and its variant.
 #[derive(Clone, Copy, Debug, PartialEq, Eq)]
 pub(crate) enum Call {
     NewHeader,
@@ -23,7 +23,7 @@ pub(crate) enum Call {
     EditTable,
     StepBlock,
     EditSettled,
-    /// The same where the counters can't follow.
+    /// The same if the refcounts can't follow.
     EditUnsettled,
     EditImage,
     StepImage,
@@ -31,7 +31,7 @@ pub(crate) enum Call {
     ApplyEdits,
     LookUp,
     LookUpImage,
-    /// The command of a line, which names no image.
+    /// The command of a line without the image's name.
     Command(&'static str),
 }
 
@@ -53,23 +53,23 @@ pub(crate) enum Kind {
     Block,
 }
 
-/// What header a run begins with.
+/// The header that a run begins with.
 #[derive(Clone, Copy)]
 pub(crate) enum HeaderOf {
-    /// A new one of these cluster bits and this refcount order.
+    /// A new one with these cluster bits and this refcount order.
     New(u32, u32),
     /// A new one for the backing file `backing.1`.
     Named,
-    /// That of the disk, where its size is this.
+    /// That of the disk, with this size in bytes.
     Disk(u64),
     /// That of the run's image.
     OfImage,
 }
 
-/// Numbers of eight bytes, and where each stands in an image.
+/// Numbers of eight bytes, and their places in an image.
 pub(crate) type Numbers = &'static [(u64, u64)];
 
-/// An image of `len` bytes: 0xa5, but zero between two places, and but for some numbers.
+/// An image of `len` bytes of 0xa5, except for zeros between two places, and for some numbers.
 #[derive(Clone, Copy)]
 pub(crate) struct Image {
     pub(crate) len: usize,
@@ -77,27 +77,27 @@ pub(crate) struct Image {
     pub(crate) numbers: Numbers,
 }
 
-/// A call of the library, with what it begins with and what must stand after it.
+/// A call of the library, with what it begins with, and what must hold after it.
 #[derive(Clone, Copy)]
 pub(crate) struct Run {
     pub(crate) call: Call,
     pub(crate) header: HeaderOf,
-    /// What tables and block are loaded from.
+    /// The image that tables and block are loaded from.
     pub(crate) source: Image,
-    /// Whether tables and block count as modified.
+    /// Whether tables and block are modified before the call.
     pub(crate) modified: bool,
-    /// The image of the call, if it takes one, without the numbers that it has before or after the call.
+    /// The image of the call, if it takes one, without the numbers `before` or `after` the call.
     pub(crate) image: Option<Image>,
-    /// The bits of the storage's alignment, which a file doesn't have.
+    /// The alignment of the storage, as a power of two. A file has none.
     pub(crate) align_bits: u32,
     pub(crate) before: Numbers,
-    /// The numbers of the image after a command has loaded its header, if it rewrites that, or has repaired
-    /// it.
+    /// The numbers of the image after a command has loaded its header and rewritten it, or has repaired the
+    /// image.
     pub(crate) opened: Numbers,
     pub(crate) after: Numbers,
-    /// Those that it changes of what it is made on, at their places among what `Held::show` shows.
+    /// The numbers that change of what `Held::show` shows, with their places.
     pub(crate) changes: &'static [(usize, u64)],
-    /// What it reports.
+    /// The text that the call reports.
     pub(crate) reports: &'static str,
 }
 
@@ -108,7 +108,7 @@ impl Run {
         Ok(image.with_align(1 << self.align_bits.min(30)))
     }
 
-    /// The image after a command has loaded its header, which it may have rewritten, or has repaired it.
+    /// The image after a command has loaded its header, and maybe rewritten it, or has repaired the image.
     pub(crate) fn opened(&self, alloc: Global) -> Result<MemStorage, Fault> {
         self.image_with(alloc, self.before, self.opened)
     }
@@ -143,7 +143,7 @@ pub(crate) const EMPTY: Image = Image {
     numbers: &[],
 };
 
-/// The bytes of an image.
+/// Makes the bytes of an image.
 pub(crate) fn image_of(alloc: Global, image: Image) -> Result<MemStorage, Fault> {
     let mut bytes = vec![in alloc; 0xa5; image.len]?;
     let (start, end) = image.zeros;

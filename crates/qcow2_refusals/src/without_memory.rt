@@ -1,6 +1,6 @@
-//! The calls that take no memory though what they are handed keeps an allocator, each made as often as is
-//! asked for. `scripts/refuse-each-allocation` counts the program's requests for memory, which must be as
-//! many for one turn as for a thousand. A call that is handed no allocator, nor what keeps one, can't ask.
+//! Calls that allocate nothing, although their arguments hold an allocator, each made a given number of
+//! times. `scripts/refuse-each-allocation` counts the program's allocations, which must be as many for one
+//! turn as for a thousand. Calls without an allocator in their arguments can't allocate.
 
 mod headers;
 mod tables;
@@ -9,23 +9,22 @@ use headers::Headers;
 use qcow2_base::{Fault, FileStorage, MemStorage, Storage};
 use tables::Tables;
 
-/// How many things one turn looks at: 3 of a storage, one of a file, 13 of headers, and 54 of tables and
-/// blocks. Each is as it must be. A call that is left out is one less.
+/// The number of checks in one turn: 3 of a storage, one of a file, 13 of headers, and 54 of tables and
+/// blocks. Each must hold, and one is missing for each call that isn't made.
 pub(crate) const OF_A_TURN: u64 = 3 + 1 + 13 + 54;
 
-/// How many things were as they must be. Each call is asked for its answer, so that none is left out of the
-/// program.
+/// The number of checks that held. They use each call's result, so that the compiler can't drop the call.
 #[derive(Clone, Copy)]
 pub(crate) struct Checks(pub(crate) u64);
 
 impl Checks {
-    // Counts one more, if it holds.
+    // Counts a check if it holds.
     fn expect(&mut self, holds: bool) {
         self.0 = self.0.saturating_add(u64::from(holds));
     }
 }
 
-/// Makes each call this many times. What they work on is made before the first turn.
+/// Makes each call this many times, on values made before the first turn.
 pub(crate) fn make_calls(rt: &HostRuntime, turns: u64) -> Result<Checks, Fault> {
     let mut headers = headers::begin(rt.alloc())?;
     let mut tables = tables::begin(rt.alloc())?;
@@ -47,7 +46,7 @@ fn make_storage_calls(rt: &HostRuntime, checks: &mut Checks) {
     checks.expect(FileStorage::open(rt, "/dev/null", false).is_ok());
 }
 
-// Calls of a storage in memory of no byte, which a read finds zero.
+// Makes calls of an empty storage in memory, which a read finds zero.
 fn read(image: MemStorage, alignment_bits: u32, checks: &mut Checks) {
     let mut image = image.with_align(1 << alignment_bits.min(30));
     let mut bytes = [1u8; 16];

@@ -1,5 +1,5 @@
-//! The calls of `qcow2_session` without their clauses, as `qcow2_calls` has those of `qcow2_metadata`: lists
-//! of edits and of steps, lookups, and commands.
+//! The calls of `qcow2_session` without their contracts, as `qcow2_calls` has those of `qcow2_metadata`:
+//! lists of edits and steps, lookups, and commands.
 #![tactic(auto)]
 
 ghost use Rattle.std.specs.Prelude.{◌≡◌, IsTrue};

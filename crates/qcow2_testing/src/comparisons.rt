@@ -1,5 +1,5 @@
-//! Comparisons of tests. One that fails reports the row of the table, what was found and what was
-//! expected, as far as the text of a failure reaches.
+//! Comparisons for tests. A failed one reports the row of the table, and the found and the expected value,
+//! as far as the text of a failure reaches.
 
 ghost use Rattle.std.specs.Prelude.{IsTrue, OnOk};
 
@@ -7,8 +7,8 @@ use std::alloc::{AllocError, Global};
 use std::fmt::{Debug, Display};
 use std::test::Fail;
 
-/// A table or a list, laid out by hand: a row in one line, if it fits. Rows of a struct have its name before
-/// the first: `rows! { Width: { order: 0, counters: 4096 }, { order: 1, counters: 2048 } }`.
+/// A table or a list, laid out by hand: each row on one line, if it fits. Rows of a struct have its name
+/// before the first: `rows! { Width: { order: 0, counters: 4096 }, { order: 1, counters: 2048 } }`.
 #[macro_export]
 macro_rules! rows {
     ($row:ident: $({ $($fields:tt)* }),* $(,)?) => {
@@ -39,12 +39,12 @@ pub fn same<T: PartialEq + Debug + Drop, R: Debug + Drop>(
     Err(Fail::new(format_args!("{row:?}: found {found:?}, expected {expected:?}")))
 }
 
-/// What a value prints as by `Debug`, which shows what no call does.
+/// The `Debug` form of a value, which shows what no call returns.
 pub fn printed<T: Debug>(alloc: Global, value: &T) -> Result<String, AllocError> {
     format!(in alloc; "{value:?}")
 }
 
-/// Fails unless both are the same bytes, and reports the first that differs and not all of them.
+/// Fails unless both have the same bytes, and reports only the first that differs.
 pub fn same_bytes<R: Debug + Drop>(found: &[u8], expected: &[u8], row: R) -> Result<(), Fail> {
     if found == expected {
         return Ok(());
@@ -59,7 +59,7 @@ pub fn same_bytes<R: Debug + Drop>(found: &[u8], expected: &[u8], row: R) -> Res
     )))
 }
 
-/// Fails unless the value prints as this text.
+/// Fails unless the `Display` form of the value is this text.
 pub fn same_text<D: Display + Debug + Drop>(
     alloc: Global,
     value: D,
@@ -79,7 +79,7 @@ pub fn holds<R: Debug + Drop>(condition: bool, row: R) -> Result<(), Fail>
     Err(Fail::new(format_args!("{row:?}: does not hold")))
 }
 
-/// The values of a list from a place to before another one, which both are in it.
+/// Returns the values of a list from `start` to before `end`, and fails if the list is too short.
 pub fn part_of<T>(list: &[T], start: usize, end: usize) -> Result<&[T], Fail> {
     match list.get(start..end) {
         Some(part) => Ok(part),
@@ -87,7 +87,7 @@ pub fn part_of<T>(list: &[T], start: usize, end: usize) -> Result<&[T], Fail> {
     }
 }
 
-/// What a test fails by where a row can't be read: a typing error in it.
+/// The failure of a test whose row can't be read because of a typing error in it.
 pub fn row_error<R: Debug + Drop>(part: R) -> Fail {
     Fail::new(format_args!("{part:?}: no row can have this"))
 }
@@ -101,7 +101,7 @@ fn first_difference(found: &[u8], expected: &[u8]) -> usize {
     found.len()
 }
 
-/// Makes a test of each row, until one fails.
+/// Tests each row, until one fails.
 pub fn each<R: Copy, F: Fn(Global, R) -> Result<(), Fail>>(
     alloc: Global,
     rows: &[R],

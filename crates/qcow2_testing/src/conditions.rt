@@ -1,4 +1,4 @@
-//! Conditions of conversions, as values that a test can ask for.
+//! Conditions of conversions, as functions that a test can call.
 
 ghost use Rattle.std.specs.Prelude.{◌+◌, ◌*◌, ◌^◌, ◌<◌, ◌↔◌, IsTrue};
 ghost use Rattle.qcow2_base.specs.Types.{IsClusterBits};

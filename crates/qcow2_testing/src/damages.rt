@@ -1,4 +1,4 @@
-//! Damages of the sample image by name, and what each reader must see of them. Its clusters have 512 bytes.
+//! Damages of the sample image by name, and what each reader must find in them. Clusters have 512 bytes.
 
 use crate::sample_image::{
     COUNTERS, COUNTERS_8, DATA, L1_TABLE, LARGER, NEXT_ENTRY, NEXT_TABLE, NO_DATA, TABLE, TO_7,
@@ -7,7 +7,7 @@ use crate::sample_image::{
 use crate::{Numbers, counted};
 use qcow2_base::Fault;
 
-/// A cluster that is found: its counter, how many uses it has, and whether these exclude each other.
+/// A cluster with a finding: its refcount, its number of references, and whether these exclude each other.
 #[derive(Clone, Copy, Debug, PartialEq)]
 pub struct FoundCluster {
     pub cluster: u64,
@@ -16,14 +16,14 @@ pub struct FoundCluster {
     pub shared: bool,
 }
 
-/// Where a copied flag is: in an L1 entry, by its index, or in an L2 entry, by its guest offset.
+/// The place of a copied flag: an L1 entry, by its index, or an L2 entry, by its guest offset.
 #[derive(Clone, Copy, Debug, PartialEq)]
 pub enum FoundPlace {
     L1Index(usize),
     Offset(u64),
 }
 
-/// A wrong copied flag: the entry's cluster, its counter, if there is one, and whether the flag is set.
+/// A wrong copied flag: the entry's cluster, its refcount, if it has one, and whether the flag is set.
 #[derive(Clone, Copy, Debug, PartialEq)]
 pub struct FoundFlag {
     pub place: FoundPlace,
@@ -32,8 +32,8 @@ pub struct FoundFlag {
     pub is_set: bool,
 }
 
-/// Where an image ends, how many clusters its disk has, and how many L2 entries are allocated, compressed and
-/// fragmented.
+/// The end of an image in bytes, the number of clusters of its disk, and the numbers of allocated,
+/// compressed and fragmented L2 entries.
 #[derive(Clone, Copy, Debug)]
 pub struct Sizes {
     pub end: u64,
@@ -43,7 +43,7 @@ pub struct Sizes {
     pub fragmented: u64,
 }
 
-/// An image that can be checked: changes of the sample image, and what is found in order.
+/// An image that can be checked: changes of the sample image, and its findings in order.
 #[derive(Clone, Copy, Debug)]
 pub struct Damage {
     pub name: &'static str,
@@ -52,12 +52,12 @@ pub struct Damage {
     pub flags: &'static [FoundFlag],
     /// Whether the L1 table is too short for the disk.
     pub is_short: bool,
-    /// What `check` prints.
+    /// The output of `check`.
     pub lines: &'static str,
     pub sizes: Sizes,
 }
 
-/// How many clusters and flags are found of each kind.
+/// The number of clusters and flags of each kind of finding.
 #[derive(Clone, Copy, Debug, PartialEq)]
 pub struct FoundTotals {
     pub leaked: u64,
@@ -68,7 +68,7 @@ pub struct FoundTotals {
 }
 
 impl Damage {
-    /// How many clusters and flags are found of each kind.
+    /// Counts the clusters and flags of each kind of finding.
     pub fn totals(&self) -> FoundTotals {
         let (leaked, missing, shared) = self.cluster_totals();
         let (false_flags, late_flags) = self.flag_totals();
@@ -101,8 +101,8 @@ impl Damage {
     }
 }
 
-/// An image that can't be checked: changes of the sample image, the fault, and the lines of `explain` on its
-/// place.
+/// An image that can't be checked: changes of the sample image, the fault, and the lines of `explain` on
+/// the place of the fault.
 #[derive(Clone, Copy, Debug)]
 pub struct Refused {
     pub name: &'static str,
@@ -111,8 +111,8 @@ pub struct Refused {
     pub place: &'static str,
 }
 
-/// An image that is repaired: changes of the sample image, those that a repair leaves, and what `check`
-/// prints then.
+/// An image to repair: changes of the sample image, those that a repair leaves, and the output of `check`
+/// afterwards.
 #[derive(Clone, Copy, Debug)]
 pub struct Repair {
     pub name: &'static str,
@@ -122,13 +122,13 @@ pub struct Repair {
 }
 
 impl Repair {
-    /// Whether nothing is wrong then.
+    /// Whether the repaired image is consistent.
     pub fn is_consistent(&self) -> bool {
         self.lines == "consistent\n"
     }
 }
 
-/// An image whose tables a repair loads: changes of the sample image, and where its L2 tables are.
+/// An image whose tables a repair loads: changes of the sample image, and the offsets of its L2 tables.
 #[derive(Clone, Copy, Debug)]
 pub struct Loaded {
     pub name: &'static str,
@@ -136,8 +136,8 @@ pub struct Loaded {
     pub l2_tables: &'static [u64],
 }
 
-/// How often `check IMAGE repair` loads an L2 table at most: three times to count uses, to clear flags and to
-/// set flags, and twice to check what is left.
+/// The most loads of one L2 table by `check IMAGE repair`: one each to count references, to clear flags and
+/// to set flags, and two to check what is left.
 pub const MOST_LOADS: usize = 5;
 
 /// An image that can't be repaired: changes of the sample image, and the fault.
@@ -148,7 +148,7 @@ pub struct Unrepairable {
     pub fault: Fault,
 }
 
-// What the sample image with counters is.
+// The sizes of the sample image with refcounts.
 const SIZES: Sizes = Sizes {
     end: 3072,
     clusters: 64,
@@ -167,7 +167,7 @@ const DAMAGE: Damage = Damage {
     sizes: SIZES,
 };
 
-// Clusters that are found, as `9 counter 7 uses 0 shared false`.
+// Clusters with findings, as `9 counter 7 uses 0 shared false`.
 macro_rules! found {
     ($($cluster:literal counter $counter:literal uses $uses:literal shared $shared:literal),* $(,)?) => {
         &[$(FoundCluster { cluster: $cluster, counter: $counter, uses: $uses, shared: $shared }),*]
@@ -204,26 +204,26 @@ mod flags;
 mod repaired;
 mod unchecked;
 
-/// A second L2 table, in cluster 6, whose last entry names cluster 7. No entry has the flag.
+/// A second L2 table, in cluster 6, whose last entry names cluster 7. No entry has the copied flag.
 pub const LATE_TABLES: Numbers<'static> = counted! {
     LARGER, TWO_TABLES, TABLE, DATA, (NEXT_TABLE, 0xc00), (0xc00 + 504, 0xe00), TO_7
 };
 
-/// What `check` prints of it.
+/// The output of `check` for it.
 pub const LATE_LINES: &str = "late l1 0 2 1\nlate 0x600 5 1\nlate l1 1 6 1\nlate 0xfe00 7 1\n\
     leaked 0 missing 0 shared 0 false 0 late 4\n";
 
-/// An image of which something of each kind is found.
+/// An image with a finding of each kind.
 pub const ALL_KINDS: Numbers<'static> = counted! {
     TABLE, (NEXT_ENTRY, L1_TABLE), (COUNTERS, 0x0001_0003_0001_0001), NO_DATA,
     (COUNTERS_8, 0x0005_0005_0000_0000)
 };
 
-/// What `check` prints of it.
+/// The output of `check` for it.
 pub const ALL_LINES: &str = "leaked 1 1 3 2\nshared 1 1 3 2\nmissing 5 1 0 1\nleaked 8 2 5 0\n\
     late l1 0 2 1\nfalse 0x600 5 0\nleaked 3 missing 1 shared 1 false 1 late 1\n";
 
-/// Counters of 64 bits, of which one is the greatest number.
+/// Refcounts of 64 bits, one of them the greatest number.
 pub const LARGE_COUNTERS: Numbers<'static> = counted! {
     (96, 0x0000_0006_0000_0068), (COUNTERS, 1), (COUNTERS + 8, 1), (COUNTERS + 16, 1), (COUNTERS + 24, 1),
     (COUNTERS + 32, 1), (COUNTERS + 40, 1), (COUNTERS + 48, u64::MAX)
@@ -251,7 +251,7 @@ pub fn refused_images() -> [&'static [Refused]; 4] {
     ]
 }
 
-/// All images that are repaired, in lists.
+/// All images to repair, in lists.
 pub fn repairs() -> [&'static [Repair]; 2] {
     [repaired::counts(), repaired::flags()]
 }

@@ -1,4 +1,4 @@
-//! A storage that fails at a planned call, to show what a caller does then.
+//! A storage that fails at a planned call, to test its callers.
 
 ghost use Rattle.std.specs.Prelude.{◌≡◌, ◌+◌, ◌^◌, ◌%◌, ◌≤◌, [], ◌∷◌, ◌++◌, false, length, None, Some, IsTrue, IsErr};
 ghost use Rattle.qcow2_base.specs.Storage.{ChangesNoByte, ReadsBytes, TellsEnd, WritesBytes};
@@ -7,7 +7,7 @@ ghost use Rattle.qcow2_testing.specs.Failing.{seen_as, plan_after, FollowsPlan};
 use qcow2_base::{Device, Storage, StorageFault};
 use std::alloc::Global;
 
-/// A call of a device: where a read or a write begins and how many bytes it asks for.
+/// A call of a device. Reads and writes have their offset and their length in bytes.
 #[derive(Clone, Copy, Debug, PartialEq, Eq)]
 pub enum StorageCall {
     Read { offset: u64, len: usize },
@@ -16,24 +16,24 @@ pub enum StorageCall {
     Len,
 }
 
-/// A storage that passes its calls on to another and records them. Where a test plans it, one call
-/// fails and changes no byte; later calls pass again.
+/// A storage that passes its calls on to another and records them. If a test plans it, one call fails and
+/// changes no byte; later calls are passed on again.
 ///
-/// It counts each call that fails, by its plan or in the other storage.
+/// It counts each failed call, planned or of the other storage.
 #[derive(Debug, Drop)]
 pub struct FailingStorage<S> {
-    /// The storage that calls are passed on to.
+    /// The storage that the calls go to.
     pub inner: S,
-    /// How many calls pass before the one that fails; without it none fails.
+    /// The number of calls before the one that fails, or `None` for no failure.
     pub plan: Option<u64>,
-    /// How many calls have failed, modulo 2^64.
+    /// The number of failed calls, modulo 2^64.
     pub failures: u64,
-    /// The calls so far in their order, with those that failed.
+    /// All calls so far in order, failed ones included.
     pub calls: Vec<StorageCall>,
 }
 
 impl<S> FailingStorage<S> {
-    /// Passes all calls on to this storage.
+    /// Wraps a storage, without a planned failure.
     pub fn new(alloc: Global, inner: S) -> FailingStorage<S>
         ensures inner { result.inner ≡ inner }
         ensures plan { result.plan ≡ None }
@@ -48,7 +48,7 @@ impl<S> FailingStorage<S> {
         }
     }
 
-    /// How many of the calls so far read the byte at an offset.
+    /// The number of calls so far that read the byte at an offset.
     pub fn reads_of(&self, offset: u64) -> usize {
         let mut reads = 0usize;
         for call in &self.calls {
@@ -62,8 +62,8 @@ impl<S> FailingStorage<S> {
         reads
     }
 
-    // Records the call, and reports whether it is to be passed on: not where it is planned to fail, nor
-    // where no memory is left for the record.
+    // Records the call, and returns whether to pass it on: not if it is planned to fail, nor if memory for
+    // the record runs out.
     fn admits(&mut self, call: StorageCall) -> bool
         ensures recorded { IsTrue result → self.new.calls.items ≡ self.old.calls.items ++ call ∷ [] }
         ensures planned { self.old.plan ≡ Some 0 → result ≡ false }
@@ -75,7 +75,7 @@ impl<S> FailingStorage<S> {
         self.calls.push(call).is_ok() && passes
     }
 
-    // Counts one more failed call.
+    // Counts a failed call.
     fn fail<T>(&mut self) -> Result<T, StorageFault>
         ensures err { IsErr result }
         ensures counted { self.new ≡ record self.old { failures = (self.old.failures + 1) % 2 ^ 64 } }
@@ -85,7 +85,7 @@ impl<S> FailingStorage<S> {
     }
 }
 
-/// Counts a planned failure down, and reports whether this turn passes.
+/// Counts down to a planned failure, and returns whether this call may succeed.
 pub fn take_turn(plan: &mut Option<u64>) -> bool
     ensures planned { plan.old ≡ Some 0 → result ≡ false }
     ensures passes { result ≡ false → plan.old ≡ Some 0 }

@@ -1,18 +1,18 @@
-//! The faults of the library, as they are reported.
+//! The faults of the library, with the numbers and texts that they report.
 
 use qcow2_base::{Fault, FaultKind, Field, UncountedPart};
 
-/// A fault, and how it is reported.
+/// A fault, and its report.
 #[derive(Clone, Copy, Debug)]
 pub struct ReportedFault {
     pub fault: Fault,
     pub number: u32,
     pub kind: FaultKind,
-    /// What must hold, with what the fault carries.
+    /// What must hold, including the values that the fault carries.
     pub message: &'static str,
 }
 
-// Rows of a fault, its number, its kind and its message.
+// Rows: a fault, its number, its kind and its message.
 macro_rules! faults {
     ($($fault:expr => $number:literal $kind:ident $message:literal),* $(,)?) => {
         &[$(ReportedFault { fault: $fault, number: $number, kind: FaultKind::$kind, message: $message }),*]

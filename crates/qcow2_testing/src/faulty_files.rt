@@ -1,5 +1,5 @@
-//! Files that pass their calls on to real ones, record how they are opened, go a few bytes at a
-//! time, and fail where a test plans it.
+//! Files that pass their calls on to real ones. They record how they are opened, read and write a few bytes
+//! at a time, and fail at a planned call.
 
 ghost use Rattle.qcow2_base.specs.Storage.ImageFile.{unknown_content};
 ghost use Rattle.qcow2_base.specs.Storage.ImageFiles.{ClosesImage, unknown_file};
@@ -13,33 +13,33 @@ use std::io;
 use std::io::{Error, ErrorKind, Read, Seek, SeekFrom, Write};
 use std::rt::Files;
 
-/// How many times a file was opened, or was to be: for reading alone, and in any other way.
+/// The number of attempts to open a file: for reading only, and in any other way.
 #[derive(Clone, Copy, Debug, PartialEq, Eq)]
 pub struct Opens {
     pub reading: u64,
     pub other: u64,
 }
 
-/// Opens such files. Opening one is no call of it; asking for its metadata is the first.
+/// Opens such files. A plan doesn't count opening a file; the call for its metadata is the first.
 #[derive(Drop)]
 pub struct FaultyFiles<'a, R> {
     files: &'a R,
-    /// How many calls pass before the one that fails; without it none fails.
+    /// The number of calls before the one that fails, or `None` for no failure.
     pub plan: Option<u64>,
     /// The most bytes that one call reads or writes.
     pub step: usize,
-    /// Where reads end, whatever the length.
+    /// The offset where reads end, whatever the file's length.
     pub end: u64,
-    /// Whether a file that is to be opened in another way than for reading is refused.
+    /// Whether to refuse opening a file except for reading.
     pub read_only: bool,
-    /// A name, and the path that is opened for it and for no other name. Without it a path is a name.
+    /// A name, and the path to open for it; other names aren't found. Without an alias each name is a path.
     pub alias: Option<(&'a str, &'a str)>,
     opens: Cell<Opens>,
     has_refused: Cell<bool>,
 }
 
 impl<'a, R> FaultyFiles<'a, R> {
-    /// Passes each call on as it is.
+    /// Passes each call on unchanged.
     pub fn new(files: &'a R) -> FaultyFiles<'a, R> {
         let opens = Opens {
             reading: 0,
@@ -57,17 +57,17 @@ impl<'a, R> FaultyFiles<'a, R> {
         }
     }
 
-    /// Whether the last file that was to be opened could not be.
+    /// Whether the last attempt to open a file failed.
     pub fn has_refused(&self) -> bool {
         self.has_refused.get()
     }
 
-    /// How many times a file was opened so far, or was to be.
+    /// The number of attempts to open a file so far.
     pub fn opens(&self) -> Opens {
         self.opens.get()
     }
 
-    // The path that is opened for a name, if there is one.
+    // The path to open for a name, if there is one.
     fn path_of<'p>(&'p self, name: &'p str) -> Option<&'p str> {
         match self.alias {
             None => Some(name),
@@ -75,7 +75,7 @@ impl<'a, R> FaultyFiles<'a, R> {
         }
     }
 
-    // Records one more opening, and reports whether it is to be passed on.
+    // Records an attempt to open a file, and returns whether to pass it on.
     fn admits(&self, how: &OpenOptions) -> bool {
         let changes = how.asks_write() || how.asks_append() || how.asks_truncate();
         let creates = how.asks_create() || how.asks_create_new();
@@ -90,7 +90,7 @@ impl<'a, R> FaultyFiles<'a, R> {
     }
 }
 
-/// A file that fails as it was planned when it was opened.
+/// A file that fails by the plan at the time when it was opened.
 #[derive(Debug, Drop)]
 pub struct FaultyFile<F> {
     file: F,

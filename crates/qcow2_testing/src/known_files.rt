@@ -1,4 +1,4 @@
-//! Files in memory whose bytes are known. They are read and written a few bytes at a time, and interrupted.
+//! Files in memory with known bytes, read and written a few bytes at a time and with interruptions.
 
 ghost use Rattle.std.specs.Prelude.{◌≡◌, ◌<◌, ◌≤◌, ◌+◌, IfOk, length};
 ghost use Rattle.qcow2_base.specs.Format.{max_file_length};
@@ -10,8 +10,8 @@ use std::alloc::Global;
 use std::io;
 use std::io::ErrorKind;
 
-/// A file in memory, whose bytes are known. A call reads or writes a few bytes, and every other read or write
-/// is interrupted.
+/// A file in memory with known bytes. A call reads or writes a few bytes, and every other one is
+/// interrupted.
 #[derive(Debug, Drop)]
 pub struct KnownFile {
     image: MemStorage,
@@ -23,7 +23,7 @@ pub struct KnownFile {
 impl KnownFile {
     ghost use Rattle.qcow2_testing.specs.KnownFiles.{content_of, known_content};
 
-    /// A file of these bytes, of which a call reads or writes this many at most. A step of 0 counts as 1.
+    /// Makes a file of these bytes. Each call reads or writes at most `step` of them; 0 counts as 1.
     pub fn new(bytes: Vec<u8>, step: usize) -> KnownFile
         ensures { known_content result ≡ content_of bytes.items }
     {
@@ -34,7 +34,7 @@ impl KnownFile {
         }
     }
 
-    /// Its bytes.
+    /// The file's bytes.
     pub fn bytes(&self) -> &[u8]
         ensures { result.now ≡ memory_bytes self.now.image }
     {
@@ -54,7 +54,7 @@ impl KnownFile {
     }
 }
 
-// Refuses bytes that no storage has.
+// Refuses ranges past the greatest length of a file.
 fn refuse_far(offset: u64, len: usize) -> io::Result<()>
     ensures { IfOk result (λ _. offset + len ≤ max_file_length) }
 {
@@ -103,8 +103,8 @@ impl ImageFile for KnownFile {
     ghost ends = { λ file offset past. get_or_past (memory_bytes file.image) offset 0 past };
 }
 
-/// Files in memory that are read and written a few bytes at a time. All paths are names of one file. What is
-/// opened is a copy of it until it is closed, unlike a file of the system.
+/// Files in memory that are read and written a few bytes at a time. All paths name the same file. Unlike a
+/// file of the system, an open file is a copy, which replaces the original when it is closed.
 #[derive(Drop)]
 pub struct KnownFiles {
     alloc: Global,
@@ -114,7 +114,7 @@ pub struct KnownFiles {
 }
 
 impl KnownFiles {
-    /// A file of these bytes under each path, read and written this many at a time.
+    /// Makes the file of these bytes. Each call reads or writes at most `step` of them.
     pub fn new(alloc: Global, bytes: Vec<u8>, step: usize) -> KnownFiles
         ensures { memory_bytes result.image ≡ bytes.items }
     {
@@ -126,7 +126,7 @@ impl KnownFiles {
         }
     }
 
-    /// The file's bytes: those that it was made of, or had when it was closed last.
+    /// The file's bytes: the original ones, or those when it was closed last.
     pub fn bytes(&self) -> &[u8]
         ensures { result.now ≡ memory_bytes self.now.image }
     {

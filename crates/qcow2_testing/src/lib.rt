@@ -1,6 +1,6 @@
-//! What the tests of all crates run on: comparisons that report the row, a storage and files that fail
-//! where a test plans it, images in memory, a small image with damages by name, files in the temporary
-//! folder, all faults, and the conditions of conversions as tests ask for them.
+//! Support for the tests of all crates: comparisons that report the row, a storage and files that fail at a
+//! planned call, images in memory, a small image with damages by name, files in the temporary folder, all
+//! faults, and the conditions of conversions as functions.
 #![tactic(auto)]
 
 mod comparisons;

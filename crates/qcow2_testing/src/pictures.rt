@@ -1,7 +1,7 @@
 //! Pictures that `qmeta layout IMAGE svg` prints.
 
-/// The picture of an image of at most 64 clusters of 512 bytes, whose squares are these: a path for each
-/// colour, in the first row. The rest of the text is the same for all such images.
+/// The picture of an image of at most 64 clusters of 512 bytes, with these squares: a path for each colour,
+/// in the first row. The rest of the text is the same for all such images.
 #[macro_export]
 macro_rules! picture {
     ($squares:literal) => {

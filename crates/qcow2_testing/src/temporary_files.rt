@@ -1,4 +1,4 @@
-//! Files of tests in the folder for temporary files.
+//! Files of tests in the temporary folder.
 
 use crate::same_bytes;
 use std::fmt::Debug;
@@ -6,10 +6,10 @@ use std::rt::Files;
 use std::test::Fail;
 use std::{env, fs, process};
 
-/// A file under a name of its own in the temporary folder. It goes when the value does.
+/// A file under a name of its own in the temporary folder. Dropping it deletes the file.
 pub struct TemporaryFile<'a, R: Files> {
     files: &'a R,
-    /// Where the file lies.
+    /// The path of the file.
     pub path: String,
 }
 
@@ -20,7 +20,7 @@ impl<R: Files> Drop for TemporaryFile<'_, R> {
     }
 }
 
-/// A path in the temporary folder where nothing lies.
+/// A path in the temporary folder for a new file.
 pub fn temporary_path(rt: &HostRuntime, name: &str) -> Result<String, Fail> {
     let id = process::id(rt.process());
     let name = format!(in rt.alloc(); "qcow2-tests-{id}-{name}")?;
@@ -28,7 +28,7 @@ pub fn temporary_path(rt: &HostRuntime, name: &str) -> Result<String, Fail> {
     Ok(path.into_string())
 }
 
-/// A file of these bytes in the temporary folder.
+/// Makes a file of these bytes in the temporary folder.
 pub fn temporary_file<'a>(
     rt: &'a HostRuntime,
     name: &str,
@@ -39,7 +39,7 @@ pub fn temporary_file<'a>(
     Ok(TemporaryFile { files: rt, path })
 }
 
-/// Fails unless the file holds these bytes and no others.
+/// Fails unless the file has exactly these bytes.
 pub fn file_holds<R: Debug + Drop>(
     rt: &HostRuntime,
     path: &str,

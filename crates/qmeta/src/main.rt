@@ -1,4 +1,4 @@
-//! `qmeta`: prints what a qcow2 image says about itself, and edits it.
+//! `qmeta`: prints what a qcow2 image contains, and edits it.
 #![tactic(auto)]
 
 use qcow2_base::{Fault, FileStorage};
@@ -13,11 +13,10 @@ use std::process::ExitCode;
 use std::rt::Files;
 use std::{env, fs, io};
 
-// How many bytes are kept of what is printed before the system is asked to take them. A long list is
-// printed by as few calls as a pipe allows.
+// The size of the output buffer in bytes. A long list is printed in as few calls as a pipe allows.
 const OUTPUT_BUFFER: usize = 65536;
 
-// The variable that says `allow` where an image is to be changed of which no list of locks says anything.
+// The environment variable that, set to `allow`, permits changing an image whose locks no list shows.
 const NO_LOCK_LIST: &str = "QMETA_NO_LOCK_LIST";
 
 fn main(rt: HostRuntime) -> ExitCode {
@@ -27,9 +26,9 @@ fn main(rt: HostRuntime) -> ExitCode {
     })
 }
 
-// Does what the words of the command line ask for, and returns the status. Opens no image and returns the
-// storage fault where the standard descriptors can't be taken. The image is opened once, and one that is
-// changed is held until the end.
+// Runs the command line, and returns the status. If the standard descriptors can't be taken, opens no image
+// and returns the storage fault. Opens the image once, and holds one that the command changes until the
+// end.
 fn run(rt: &HostRuntime) -> Result<u8, Fault> {
     let Ok(_taken) = take_standard_descriptors(rt) else {
         return Err(Fault::Storage);
@@ -42,8 +41,8 @@ fn run(rt: &HostRuntime) -> Result<u8, Fault> {
     run_watched(rt, &request, image, tables.as_slice(), held.as_ref())
 }
 
-// Does what words ask for with an open image, and says at a terminal how far it is with these tables of it.
-// One that is held is written to only while no other program has come to it.
+// Runs a request over an open image, and reports progress with these tables of it at a terminal. Writes to
+// a held image only while no other program has opened it.
 fn run_watched(
     rt: &HostRuntime,
     request: &Request<'_>,
@@ -64,18 +63,18 @@ fn run_watched(
     Ok(status)
 }
 
-// Files that nothing can be written to. While they are held, no file that is opened later gets descriptor 0,
-// 1 or 2. Without them the image would get one that was closed, and what is printed would be written into it.
+// Opens files that can't be written. While they are open, no file that is opened later gets descriptor 0, 1
+// or 2. Otherwise the image could get one that was closed, and output would be written into it.
 fn take_standard_descriptors<R: Files>(rt: &R) -> io::Result<[R::File; 3]> {
     Ok([null_file(rt)?, null_file(rt)?, null_file(rt)?])
 }
 
-// A file that is empty, to be read.
+// Opens an empty file for reading.
 fn null_file<R: Files>(rt: &R) -> io::Result<R::File> {
     File::open(rt, "/dev/null")
 }
 
-// The words after the program's name, or none where one of them isn't text.
+// Returns the words after the program's name, or none if one of them isn't UTF-8.
 fn words_of(rt: &HostRuntime) -> Result<Vec<String>, Fault> {
     match env::args(rt) {
         Ok(arguments) => Ok(arguments.skip(1).collect(rt.alloc())?),
@@ -84,7 +83,7 @@ fn words_of(rt: &HostRuntime) -> Result<Vec<String>, Fault> {
     }
 }
 
-// Opens the image of a command that changes it, and holds it.
+// Opens and holds the image of a command that changes it.
 fn hold_image(rt: &HostRuntime, request: &Request<'_>) -> Result<Option<HeldImage>, Fault> {
     match request {
         Request::Command { command, path } if command.changes_image() => {
@@ -94,7 +93,7 @@ fn hold_image(rt: &HostRuntime, request: &Request<'_>) -> Result<Option<HeldImag
     }
 }
 
-// The image of a command: the one that is held, or one that is opened to be read.
+// Returns the image of a command: the held one, or one opened for reading.
 fn open_image(
     rt: &HostRuntime,
     request: &Request<'_>,
@@ -107,7 +106,7 @@ fn open_image(
     }
 }
 
-// What the environment says of an image of which no list of locks says anything.
+// Returns what the environment allows for an image whose locks no list shows.
 fn unlisted(rt: &HostRuntime) -> Result<Unlisted, Fault> {
     match env::var(rt, NO_LOCK_LIST) {
         Ok(word) if word.as_str() == "allow" => Ok(Unlisted::Allow),
@@ -116,8 +115,8 @@ fn unlisted(rt: &HostRuntime) -> Result<Unlisted, Fault> {
     }
 }
 
-// The L2 tables whose reads are told of: those of the image of a command that reads all, at a terminal. None
-// where they can't be read, as the command will say.
+// Returns the L2 tables whose reads count as progress: those of the image, if the command reads all tables
+// and can report at a terminal. Returns none if they can't be read, as the command will report.
 fn watched_tables(
     rt: &HostRuntime,
     request: &Request<'_>,
@@ -133,8 +132,8 @@ fn watched_tables(
     }
 }
 
-// Whether standard error is a terminal, and standard output goes to no other program, which may write there
-// too.
+// Whether standard error is a terminal, and standard output goes to no other program, which might write to
+// the terminal too.
 fn has_terminal_alone(rt: &HostRuntime) -> bool {
     rt.stderr().is_terminal()
         && match fs::metadata(rt, "/proc/self/fd/1") {

@@ -1,4 +1,4 @@
-//! Calls that take memory and no storage: tables, blocks and an extension that are made, copied and grown.
+//! Calls that allocate memory and use no storage: they make, copy and grow tables, blocks and an extension.
 
 use super::tell;
 use crate::held::Held;
@@ -7,7 +7,7 @@ use qcow2_calls::{copy_l2_table, grow_l1_table, grow_reftable, new_block, new_l2
 use qcow2_metadata::{HeaderExtension, Table, TableEntry};
 use std::alloc::AllocError;
 
-/// Reports the extension that is copied too, whatever comes of its copy.
+/// Reports the original extension too, even if its copy fails.
 pub(super) fn clone_extension(held: &mut Held) -> Result<(), Fault> {
     let name = String::from_str(held.alloc, "qcow2")?;
     let extension = HeaderExtension::BackingFileFormat(name);
@@ -45,7 +45,7 @@ pub(super) fn tell_grown_reftable(held: &mut Held) -> Result<(), Fault> {
     tell_table(&mut held.out, &table)
 }
 
-// Reports how many entries a table has, that at index 3, its cluster and its flag.
+// Reports a table's number of entries, its entry at index 3, its cluster and its modified flag.
 fn tell_table<T: Table>(out: &mut Vec<u8>, table: &T) -> Result<(), Fault> {
     let (entries, entry) = (table.entries(), table.get(3).to_plain());
     tell(

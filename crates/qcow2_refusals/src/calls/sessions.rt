@@ -1,4 +1,4 @@
-//! Lists of changes, and lookups.
+//! Lists of edits and steps, and lookups.
 
 use super::tell;
 use crate::held::{BLOCK, Held, TABLES};
@@ -10,7 +10,7 @@ use qcow2_session_calls::{
 };
 use qcow2_testing::rows;
 
-// Edits of a table in memory, and of the first and the last entry of one of 65536 bytes.
+// Edits of a table in memory, and edits of the first and the last entry of a table of 65536 bytes.
 const TABLE_EDITS: &[Edit] = rows! {
     Edit::Map { index: 0, host_cluster: HostCluster(8) }, Edit::Zero { index: 1, keep_allocation: true },
     Edit::Discard { index: 2 },
@@ -21,7 +21,7 @@ const IMAGE_EDITS: &[Edit] = rows! {
     Edit::Map { index: 8191, host_cluster: HostCluster(6) },
 };
 
-// Steps of a block in memory, and of one of 4096 bytes.
+// Steps of a block in memory, and steps of a block of 4096 bytes.
 const BLOCK_STEPS: &[Step] =
     rows! { Step::Inc { index: 5 }, Step::Dec { index: 7 }, Step::Dec { index: 6 } };
 
@@ -53,7 +53,7 @@ pub(super) fn settle(held: &mut Held) -> Result<(), Fault> {
     tell(&mut held.out, &outcome)
 }
 
-// The same where the counters can't follow.
+// The same if the refcounts can't follow.
 pub(super) fn settle_in_vain(held: &mut Held) -> Result<(), Fault> {
     match settle(held) {
         Err(Fault::CounterRange) => Ok(()),

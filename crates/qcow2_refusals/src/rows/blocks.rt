@@ -8,7 +8,7 @@ use crate::runs::PlacedCall::{Load, Write, WriteIfModified};
 use crate::runs::{Image, Numbers, Run};
 use qcow2_testing::rows;
 
-// A run of a block of this refcount order.
+// A run with a block of this refcount order.
 macro_rules! of_order {
     ($run:expr, $order:expr) => {
         Run {
@@ -44,7 +44,7 @@ const LOAD: Run = Run {
     ..WRITE
 };
 
-// The flag is clear, and the block is zero in the image.
+// The block isn't modified, and is zero in the image.
 const WRITE: Run = Run {
     call: Placed(Write, Block),
     source: Image {

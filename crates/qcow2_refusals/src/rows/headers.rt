@@ -17,7 +17,7 @@ pub(crate) fn runs() -> &'static [Run] {
 const RUNS: &[Run] = rows! {
     Run { call: LoadHeader { for_writing: false }, header: New(9, 4), image: Some(DISK),
         changes: &[(4, 0x8000), (5, 0x200), (6, 1), (9, 0)], ..RUN },
-    // a load that clears autoclear features, and one that lengthens the image
+    // a load that clears autoclear bits, and one that also lengthens the image
     Run { call: LoadHeader { for_writing: true }, header: Disk(4096),
         image: Some(Image { len: 1024, zeros: (0, 512), numbers: SMALL }),
         before: &[(88, 1)], after: &[(88, 0)], changes: &[(4, 0), (5, 0), (6, 0)], ..RUN },

@@ -1,4 +1,4 @@
-//! Runs of lists of edits and of steps in memory, of tables and blocks whose flags are clear or set.
+//! Runs of lists of edits and steps in memory, with tables and blocks modified before or not.
 
 use crate::rows::RUN;
 use crate::runs::Call::{EditSettled, EditTable, EditUnsettled, StepBlock};
@@ -51,7 +51,7 @@ const OUTCOME: &str =
     "Outcome { gained: [HostCluster(8)], freed: [ClustersToFreeEntry { first: HostCluster(5), \
     count: ClusterCount(1) }, ClustersToFreeEntry { first: HostCluster(6), count: ClusterCount(1) }] }";
 
-// A table with data in clusters 5, 5 and 6, and a block that counts references to clusters 4 to 7.
+// A table with data in clusters 5, 5 and 6, and a block with refcount 2 for cluster 5 and 1 for cluster 6.
 const COUNTED: Image = Image {
     len: 1536,
     zeros: (0, 1536),
@@ -60,7 +60,7 @@ const COUNTED: Image = Image {
     },
 };
 
-// The same where the block counts none to cluster 6.
+// The same, with refcount 0 for cluster 6.
 const UNCOUNTED: Image = Image {
     numbers: rows! {
         (512, 0x8000_0000_0000_0a00), (520, 0xa00), (528, 0x8000_0000_0000_0c00), (1032, 0x2_0000_0000),

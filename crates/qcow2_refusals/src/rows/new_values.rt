@@ -23,7 +23,7 @@ const RUNS: &[Run] = rows! {
     Run { call: GrowReftable, reports: "(128, 2097152, None, true)", ..OF_ONE_ENTRY },
 };
 
-// Tables of 64 entries that are 0, but for that at index 3.
+// Tables of 64 entries, all 0 except the one at index 3.
 const OF_ONE_ENTRY: Run = Run {
     source: Image {
         len: 1536,

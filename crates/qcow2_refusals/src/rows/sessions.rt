@@ -1,4 +1,4 @@
-//! Runs of lists in an image, of lookups and of commands.
+//! Runs of edits and steps in an image, of lookups and of commands.
 
 use crate::held::DISK;
 use crate::rows::RUN;
@@ -26,7 +26,7 @@ const RUNS: &[Run] = rows! {
         image: Some(Image { len: 12288, zeros: (8192, 12288), ..EMPTY }), before: &[(8192, 7 << 48)],
         after: &[(8192, 8 << 48), (12280, 1)], reports: "[Done(7), Refused, Done(0)]", ..RUN },
     Run { call: PlanEdits, after: UNCLEARED, ..OF_EDITS },
-    // it asks for all memory before it clears the autoclear features
+    // it allocates everything before it clears the autoclear bits
     Run { call: ApplyEdits, after: APPLIED, ..OF_EDITS },
     Run { call: LookUp, reports: DATA, ..OF_A_DISK },
     Run { call: LookUpImage, reports: DATA, ..OF_A_DISK },
@@ -42,7 +42,7 @@ const RUNS: &[Run] = rows! {
         ..OF_A_DISK },
     Run { call: Command("check"), before: COUNTED, after: COUNTED, reports: CHECKED, ..OF_A_DISK },
     Run { call: Command("check json"), before: COUNTED, after: COUNTED, reports: OBJECT, ..OF_A_DISK },
-    // refused after its one write, it leaves the image repaired
+    // if refused after its one write, it leaves the image repaired
     Run { call: Command("check repair"), before: COUNTED, opened: REPAIRED, after: REPAIRED,
         reports: "consistent\n", ..OF_A_DISK },
     Run { call: Command("l2 9 2"), reports: "3 data 0xa00 copied\n", ..OF_A_DISK },
@@ -50,7 +50,7 @@ const RUNS: &[Run] = rows! {
         reports: "freed 5 1\nfreed 6 1\ngained 6\n", ..OF_A_DISK },
     Run { call: Command("count 3 inc:0 inc:0 dec:0 dec:1"), after: &[(1536, 1 << 48)],
         reports: "ok 0\nok 1\nok 2\nrefused\n", ..OF_A_DISK },
-    // autoclear features, which a load for writing clears
+    // autoclear bits, which a load for writing clears
     Run { call: Command("edit 0 map:3:6 map:3:5"), before: &[(88, 1)], opened: &[(88, 0)],
         after: &[(88, 0)], reports: "freed 5 1\nfreed 6 1\ngained 6\ngained 5\n", ..OF_A_DISK },
     Run { call: Command("count 3 inc:0 dec:0"), before: &[(88, 1)], opened: &[(88, 0)], after: &[(88, 0)],
@@ -72,14 +72,14 @@ const OF_EDITS: Run = Run {
     ..OF_A_DISK
 };
 
-// A refcount table in cluster 3, and its block in cluster 4. There the counters of clusters 0 to 5 are 1, but
-// that of cluster 5 is 2, and that of cluster 7 is 1.
+// A refcount table in cluster 3, and its block in cluster 4: clusters 0 to 4 and 7 have refcount 1, cluster
+// 5 has 2, and cluster 6 has 0.
 const COUNTED: Numbers = counted! { (COUNTERS_4, 0x0001_0002_0000_0001), BLOCK_END };
 
-// The last counters of the block, to which the image reaches.
+// The last refcounts of the block, so that the image has all of it.
 const BLOCK_END: (u64, u64) = (BLOCK + 504, 0);
 
-// What each of its clusters is.
+// The output of `layout`.
 const LAYOUT: &str = "0 1 header\n1 1 l1\n2 1 l2\n3 1 refcount-table\n4 1 refcount-block\n\
     5 1 data 0x600\n6 1 free\n7 1 leaked\n";
 
@@ -93,13 +93,13 @@ const PICTURE: &str = picture!(
 "
 );
 
-// The same where each counter is its cluster's uses.
+// The same with each refcount equal to its cluster's references.
 const REPAIRED: Numbers = counted! { BLOCK_END };
 
-// The same with an autoclear feature.
+// The same with an autoclear bit.
 const UNCLEARED: Numbers = counted! { AUTOCLEAR, BLOCK_END };
 
-// The same without it, where guest cluster 0 is the data in cluster 6, and guest cluster 3 has none.
+// The same without it, with guest cluster 0 mapped to the data in cluster 6, and guest cluster 3 unmapped.
 const APPLIED: Numbers = counted! {
     (88, 0),
     (L2_TABLE, COPIED + 0xc00),
@@ -108,7 +108,7 @@ const APPLIED: Numbers = counted! {
     BLOCK_END,
 };
 
-// The data has one reference, by an entry with the copied flag.
+// The output of `check`: the data has one reference, from an entry with the copied flag.
 const CHECKED: &str = "leaked 5 1 2 1\nleaked 7 1 1 0\nfalse 0x600 5 2\n\
     leaked 2 missing 0 shared 0 false 1 late 0\n";
 

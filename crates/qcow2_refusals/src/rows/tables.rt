@@ -1,4 +1,5 @@
-//! Runs of tables of 1024 entries: two pieces, each of which begins with a number, and one ends with one.
+//! Runs of tables of 1024 entries, in two parts of 512: each part begins with a number other than 0, and
+//! the second ends with one.
 
 use crate::rows::RUN;
 use crate::runs::Call::Placed;
@@ -8,7 +9,7 @@ use crate::runs::PlacedCall::{Load, Write, WriteEntry, WriteIfModified};
 use crate::runs::{Image, Numbers, Run};
 use qcow2_testing::rows;
 
-// A call of a table, by the numbers that the image has then.
+// A call of a table, with the numbers that the image has after it.
 macro_rules! run {
     ($call:expr, $kind:expr, $after:expr) => {
         Run {
@@ -33,7 +34,7 @@ const RUNS: &[Run] = rows! {
     Run { modified: true, ..run!(WriteEntry, L2Table, LAST) },
     Run { modified: true, ..run!(WriteEntry, Reftable, LAST) },
     run!(WriteEntry, L1Table, LAST), run!(WriteEntry, L2Table, LAST), run!(WriteEntry, Reftable, LAST),
-    // over a storage of 8192 bytes at once
+    // over a storage with an alignment of 8192 bytes
     Run { modified: true, align_bits: 13, ..run!(WriteEntry, L1Table, TABLE) },
     Run { modified: true, align_bits: 13, ..run!(WriteEntry, L2Table, TABLE) },
     Run { modified: true, align_bits: 13, ..run!(WriteEntry, Reftable, TABLE) },
@@ -44,7 +45,7 @@ const TABLE: Numbers = rows! { (8192, 0x2000_0000), (12288, 0x4000_0000), (16376
 
 const LAST: Numbers = rows! { (16376, 0x6000_0000) };
 
-// Before a call the flag is clear, and the table is zero in the image.
+// Before the call the table isn't modified, and is zero in the image.
 const ZEROS: Run = Run {
     header: New(13, 4),
     source: Image {

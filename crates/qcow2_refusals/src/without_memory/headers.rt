@@ -1,4 +1,4 @@
-//! Calls of headers: getters, setters, `update`, the pointer writes, and entries that are made by a header.
+//! Calls of headers: getters, setters, `update`, the pointer writes, and making entries for a header.
 
 use super::Checks;
 use crate::held::disk_header;
@@ -10,7 +10,7 @@ use qcow2_metadata::{FeatureType, Header, L1Entry, L2Entry, RefTableEntry, Table
 use qcow2_testing::image_with;
 use std::alloc::Global;
 
-/// A new header, that of a disk, another like it, and an image that holds a header's bytes.
+/// A new header, that of the disk, another like it, and an image with room for a header.
 #[derive(Drop)]
 pub(super) struct Headers {
     first: Header,
@@ -51,7 +51,7 @@ pub(super) fn make(turn: u64, headers: &mut Headers, checks: &mut Checks) {
     write_pointers(&headers.disk, &mut headers.image, checks);
 }
 
-// Whether it says version 3, clusters of 512 bytes and counters of 16 bits.
+// Whether the header has version 3, clusters of 512 bytes and refcounts of 16 bits.
 fn is_of_9_bits(header: &Header) -> bool {
     header.version() == 3
         && header.cluster_bits() == 9
@@ -63,7 +63,7 @@ fn is_of_9_bits(header: &Header) -> bool {
         && header.require_version(3).is_ok()
 }
 
-// Whether it says this size, an L1 table of these entries at this offset, and no refcount table.
+// Whether the header has this size, an L1 table of this many entries at this offset, and no refcount table.
 fn points(header: &Header, size: u64, l1_table_offset: u64, l1_table_entries: usize) -> bool {
     header.size() == size
         && header.l1_table_offset().0 == l1_table_offset

@@ -1,4 +1,4 @@
-//! Calls of tables and blocks, of their guards, of growth, and the calls of lists that take no memory.
+//! Calls of tables and blocks, of their guards, of growth, and the calls of lists that allocate nothing.
 
 use super::Checks;
 use crate::calls::tables;
@@ -19,7 +19,7 @@ use qcow2_session_calls::{edits_fit, settle};
 use qcow2_testing::{fits, image_with, rows};
 use std::alloc::Global;
 
-/// Tables and a block, an image that they are written to, and what edits did to references.
+/// Tables and a block, an image to write them to, and an outcome of edits.
 #[derive(Drop)]
 pub(super) struct Tables {
     held: Held,
@@ -27,7 +27,7 @@ pub(super) struct Tables {
     outcome: Outcome,
 }
 
-/// Entry 3 of the L2 table: compressed data from byte 0x600 on, which no turn changes.
+/// Entry 3 of the L2 table: compressed data from byte 0x600 on. No turn changes it.
 const COMPRESSED: u64 = 0x4000_0000_0000_0600;
 
 pub(super) fn begin(alloc: Global) -> Result<Tables, Fault> {
@@ -41,7 +41,7 @@ pub(super) fn begin(alloc: Global) -> Result<Tables, Fault> {
     })
 }
 
-// Tables and a block that have no entries, but for the L2 table, which is that of the image.
+// Tables and a block without entries, except for the L2 table, which is loaded from the image.
 fn begin_held(alloc: Global, image: &mut MemStorage) -> Result<Held, Fault> {
     let header = header_of(alloc, 9, 4, false)?;
     let mut held = hold_over(alloc, &mut MemStorage::new(Vec::new(alloc)), header)?;
@@ -62,7 +62,7 @@ pub(super) fn make(turn: u64, tables: &mut Tables, checks: &mut Checks) {
     write(&mut tables.held, &mut tables.image, checks);
 }
 
-// The entry at the index is one that each turn sets anew, before it is looked at.
+// Each turn sets the entry at the index anew, before it is looked at.
 fn make_in_memory(held: &mut Held, index: usize, checks: &mut Checks) {
     enter_in_l1_table(&mut held.l1_table, &mut held.l2_table, index, checks);
     enter_in_reftable(&mut held.reftable, &mut held.block, index, checks);
@@ -77,7 +77,7 @@ fn make_in_memory(held: &mut Held, index: usize, checks: &mut Checks) {
     make_new(held.l1_table.allocator(), &held.header, index, checks);
 }
 
-// A table of one cluster of 512 bytes, with this entry at the index.
+// Checks a table of one cluster of 512 bytes, with this entry at the index.
 fn look_at<T: Table>(table: &mut T, index: usize, entry: u64, checks: &mut Checks) {
     let (entries, bytes, clusters) = (table.entries(), table.byte_size(), table.cluster_count());
     checks.expect(entries == 64 && bytes == 512 && clusters == ClusterCount(1));
@@ -125,7 +125,7 @@ fn point(header: &mut Header, l1_table: &L1Table, reftable: &RefTable, checks: &
     checks.expect(set_reftable(header, reftable).is_ok());
 }
 
-// Guest cluster 3, which is the compressed data.
+// Looks up guest cluster 3, the compressed data.
 fn look_up(table: &mut L2Table, checks: &mut Checks) {
     checks.expect(!table.external_data_file());
     let guest_cluster = GuestCluster(3);
@@ -141,7 +141,7 @@ fn look_up(table: &mut L2Table, checks: &mut Checks) {
     checks.expect(matches!(guard.compressed_read_guard(guest_cluster), Ok(Some(_))));
 }
 
-// An entry of 0 is mapped, loses the copied flag, is kept as zeros, and discarded.
+// Maps an entry of 0, clears its copied flag, makes it zeros that keep the cluster, and discards it.
 fn change(table: &mut L2Table, index: usize, checks: &mut Checks) {
     let cluster = HostCluster(8);
     checks.expect(edits_fit(table, &[Edit::Discard { index }]).is_ok());
@@ -151,7 +151,7 @@ fn change(table: &mut L2Table, index: usize, checks: &mut Checks) {
     checks.expect(discard_cluster(table, index) == Ok(Some(only(cluster))));
 }
 
-// This cluster alone.
+// One cluster.
 fn only(first: HostCluster) -> ClustersToFreeEntry {
     ClustersToFreeEntry {
         first,
@@ -159,7 +159,7 @@ fn only(first: HostCluster) -> ClustersToFreeEntry {
     }
 }
 
-// A block in the cluster of the tables.
+// Checks a block in the cluster of the tables.
 fn look_at_block(block: &mut RefBlock, checks: &mut Checks) {
     checks.expect(block.get_cluster() == Some(TABLES) && block.get_offset().is_some());
     block.clear_modified();
@@ -168,7 +168,7 @@ fn look_at_block(block: &mut RefBlock, checks: &mut Checks) {
     checks.expect(block.is_modified() && block.cluster_bits() == 9);
 }
 
-// A counter of 0 is counted up and down, and put in the place of itself.
+// Counts a refcount of 0 up and down, and sets it to 0.
 fn count(block: &mut RefBlock, index: usize, checks: &mut Checks) {
     if index >= block.entries() {
         return;
@@ -180,7 +180,7 @@ fn count(block: &mut RefBlock, index: usize, checks: &mut Checks) {
     checks.expect(guard.set(index, 0) == Ok(0));
 }
 
-// Which calls write what: each of these is made.
+// The calls that write, and the tables that they write.
 const WRITES: &[(PlacedCall, Kind)] = rows! {
     (Write, Kind::L1Table), (WriteEntry, Kind::L1Table),
     (Write, Kind::Reftable), (WriteEntry, Kind::Reftable),

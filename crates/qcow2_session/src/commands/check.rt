@@ -107,7 +107,7 @@ pub fn repair_and_check_image<S: Device, O: Write>(
     ensures { RepairsAndChecks header
         (run_over S.state O.contents result image.old image.new out.old out.new) }
 {
-    // That a repaired image can be checked is known of valid headers.
+    // A repaired image can be checked: this is proved for valid headers.
     every_header_is_valid(&header);
     let header = repair_image(alloc, image, header)?;
     check_image(alloc, image, &header, out)

@@ -1,4 +1,5 @@
-//! Clusters whose counters or whose uses are wrong, and others to which all kinds of entries refer.
+//! Clusters with wrong refcounts or references that exclude each other, and clusters with references of all
+//! kinds.
 
 use super::{
     DAMAGE, Damage, FoundCluster, FoundFlag, FoundPlace, LARGE_COUNTERS, SIZES, Sizes, found,
@@ -11,10 +12,10 @@ use crate::sample_image::{
 };
 use crate::{COMPRESSED, COPIED, Numbers, counted, rows};
 
-// Clusters whose counters differ from their uses.
+// Clusters whose refcounts differ from their references.
 const COUNTERS_OF_CLUSTERS: &[Damage] = rows! {
     Damage { name: "a consistent image", ..DAMAGE },
-    // counters that are too great
+    // refcounts that are too great
     Damage { name: "a leaked cluster", changes: counted! { (COUNTERS_8, 0x0000_0007_0000_0000) },
         clusters: found! { 9 counter 7 uses 0 shared false },
         lines: "leaked 9 1 7 0\nleaked 1 missing 0 shared 0 false 0 late 0\n",
@@ -54,7 +55,7 @@ const COUNTERS_OF_CLUSTERS: &[Damage] = rows! {
         clusters: found! { 5 counter 2 uses 1 shared false },
         flags: wrong! { offset 0x600 cluster 5 set true counter Some(2) },
         lines: "leaked 5 1 2 1\nfalse 0x600 5 2\nleaked 1 missing 0 shared 0 false 1 late 0\n", ..DAMAGE },
-    // counters that are too small
+    // refcounts that are too small
     Damage { name: "missing data", changes: counted! { DATA, NO_DATA },
         clusters: found! { 5 counter 0 uses 1 shared false },
         lines: "missing 5 1 0 1\nleaked 0 missing 1 shared 0 false 0 late 0\n", ..DAMAGE },
@@ -95,10 +96,10 @@ const COUNTERS_OF_CLUSTERS: &[Damage] = rows! {
         sizes: Sizes { end: 512, clusters: 0, allocated: 0, ..SIZES }, ..DAMAGE },
 };
 
-// No tables and no counters.
+// No tables and no refcounts.
 const HEADER_ALONE: Numbers<'static> = &[(24, 0), (32, 0), (40, 0)];
 
-// Clusters that entries of all kinds refer to.
+// Clusters with references from all kinds of entries.
 const USES: &[Damage] = rows! {
     Damage { name: "compressed data", changes: counted! { (NEXT_ENTRY, COMPRESSED + 0xc00) },
         clusters: found! { 6 counter 0 uses 1 shared false },
@@ -172,18 +173,18 @@ const USES: &[Damage] = rows! {
         sizes: Sizes { end: 3584, ..SIZES }, ..DAMAGE },
 };
 
-// Data past all counters, in clusters that no window has together.
+// Data past all refcounts, in clusters that aren't all in one window of a check.
 const FAR_APART: Numbers<'static> = counted! {
     (NEXT_ENTRY, 256 << 9), (NEXT_ENTRY + 8, 4095 << 9), (NEXT_ENTRY + 16, 4096 << 9),
     (NEXT_ENTRY + 24, 8192 << 9), (NEXT_ENTRY + 32, LAST), (NEXT_ENTRY + 40, 1 << 40),
     (NEXT_ENTRY + 48, LAST)
 };
 
-// Then the L2 table is in cluster 6.
+// An L1 table in clusters 1 and 2, and the L2 table in cluster 6.
 const LONG_TABLE: Numbers<'static> =
     counted! { (32, 65), (TABLE_ENTRY, COPIED + 0xc00), (DATA_ENTRY, 0), (0xc00 + 24, COPIED + 0xa00), TO_6 };
 
-// Clusters whose uses exclude each other, whatever their counters.
+// Clusters whose references exclude each other, whatever their refcounts.
 const SHARED: &[Damage] = rows! {
     Damage { name: "data in the L1 table",
         changes: counted! { (NEXT_ENTRY, L1_TABLE), (COUNTERS, 0x0001_0002_0001_0001) },
@@ -271,17 +272,17 @@ const SHARED: &[Damage] = rows! {
         sizes: Sizes { allocated: 2, fragmented: 1, ..SIZES }, ..DAMAGE },
 };
 
-/// Clusters whose counters differ from their uses.
+/// Clusters whose refcounts differ from their references.
 pub(super) fn wrong_counters() -> &'static [Damage] {
     COUNTERS_OF_CLUSTERS
 }
 
-/// Clusters that entries of all kinds refer to.
+/// Clusters with references from all kinds of entries.
 pub(super) fn uses() -> &'static [Damage] {
     USES
 }
 
-/// Clusters whose uses exclude each other, whatever their counters.
+/// Clusters whose references exclude each other, whatever their refcounts.
 pub(super) fn shared_clusters() -> &'static [Damage] {
     SHARED
 }

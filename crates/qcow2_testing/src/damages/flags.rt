@@ -10,7 +10,7 @@ use crate::sample_image::{
 };
 use crate::{COMPRESSED, COPIED, Numbers, counted, rows};
 
-// Copied flags that are wrong, and some that are right.
+// Wrong copied flags, and some right ones.
 const FLAGS: &[Damage] = rows! {
     // of the L1 entry
     Damage { name: "the late flag of a table", changes: counted! { TABLE },
@@ -83,7 +83,7 @@ const FLAGS: &[Damage] = rows! {
 
 // Images with an external data file, and with several tables.
 const OTHERS: &[Damage] = rows! {
-    // another file, where each cluster of data has one reference, that at offset 0 too
+    // an external data file, in which each cluster of data has one reference, also the one at offset 0
     Damage { name: "data in another file", changes: counted! { EXTERNAL, NO_DATA },
         sizes: Sizes { end: 2560, ..SIZES }, ..DAMAGE },
     Damage { name: "data in another file that is counted here", changes: counted! { EXTERNAL },
@@ -172,17 +172,17 @@ const OTHERS: &[Damage] = rows! {
         ..DAMAGE },
 };
 
-// An L2 table that two L1 entries name, of which the first has the flag.
+// An L2 table that two L1 entries name, the first with the copied flag.
 const FALSE_TABLE: Numbers<'static> =
     counted! { LARGER, TWO_TABLES, (NEXT_TABLE, L2_TABLE), DATA, TABLE_TWICE, TWICE };
 
-// A second L2 table, in cluster 6, which no counter counts.
+// A second L2 table, in cluster 6, whose refcount is 0.
 const WRONG_TABLES: Numbers<'static> = counted! {
     LARGER, TWO_TABLES, TABLE, (L2_TABLE, COPIED + 0xe00), DATA, (LAST_ENTRY, COPIED + 0x1000),
     (NEXT_TABLE, COPIED + 0xc00), (0xc00, 0xa00), (0xc00 + 504, COPIED + 0xe00)
 };
 
-// Disks that their L1 tables are too short for, or too long.
+// Disks whose L1 tables are too short or too long.
 const DISKS: &[Damage] = rows! {
     Damage { name: "a table longer than needed", changes: counted! { TWO_TABLES }, ..DAMAGE },
     Damage { name: "a disk of 65 clusters", changes: counted! { (24, 32769), TWO_TABLES },
@@ -209,7 +209,7 @@ const DISKS: &[Damage] = rows! {
         sizes: Sizes { clusters: 36028797018963968, ..SIZES }, ..DAMAGE },
 };
 
-/// Copied flags that are wrong, and some that are right.
+/// Wrong copied flags, and some right ones.
 pub(super) fn flags() -> &'static [Damage] {
     FLAGS
 }
@@ -219,7 +219,7 @@ pub(super) fn other_images() -> &'static [Damage] {
     OTHERS
 }
 
-/// Disks that their L1 tables are too short for, or too long.
+/// Disks whose L1 tables are too short or too long.
 pub(super) fn disks() -> &'static [Damage] {
     DISKS
 }

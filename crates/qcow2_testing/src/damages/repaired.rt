@@ -1,4 +1,4 @@
-//! Images that are repaired, and those that can't be.
+//! Images that can be repaired, and images that can't.
 
 use super::{LARGE_COUNTERS, LATE_TABLES, Loaded, Repair, Unrepairable};
 use crate::sample_image::{
@@ -16,12 +16,12 @@ const CONSISTENT: Repair = Repair {
     lines: "consistent\n",
 };
 
-// The last counters of the block, to which the image reaches where that was written.
+// The last refcounts of the block: an image whose block was written has all of it.
 const BLOCK_END: (u64, u64) = (COUNTERS + 504, 0);
 
 const WRITTEN: Numbers<'static> = counted! { BLOCK_END };
 
-// The data of two entries, with the counter 2 and no flags.
+// The data of two entries, with refcount 2 and without copied flags.
 const SHARED_DATA: Numbers<'static> = counted! { DATA, (NEXT_ENTRY, 0xa00), TWICE, BLOCK_END };
 
 const COUNTS: &[Repair] = rows! {
@@ -49,7 +49,7 @@ const COUNTS: &[Repair] = rows! {
         left: counted! {
             (24, 0), (32, 0), (40, 0x1_0000), (COUNTERS, 0x0001_0000_0000_0001), NO_DATA, BLOCK_END
         }, ..CONSISTENT },
-    // what no block counts stays
+    // clusters that no block counts stay wrong
     Repair { name: "no block", changes: counted! { TABLE, (REFTABLE, 0) },
         left: counted! { TABLE, (REFTABLE, 0) },
         lines: "missing 0 4 0 1\nmissing 5 1 0 1\nfalse 0x600 5 0\n\
@@ -87,7 +87,7 @@ const FLAGS: &[Repair] = rows! {
         }, ..CONSISTENT },
     Repair { name: "the late flag of data in another file", changes: counted! { EXTERNAL, DATA },
         left: counted! { EXTERNAL, NO_DATA, BLOCK_END }, ..CONSISTENT },
-    // tables in the last cluster of a file that ends within it
+    // a table in the last cluster of a file that ends within it
     Repair { name: "an L2 table that the file's end cuts",
         changes: counted! { LARGER, TWO_TABLES, (NEXT_TABLE, COPIED + 0xc00), (0xc00, 0) },
         left: counted! { LARGER, TWO_TABLES, (NEXT_TABLE, COPIED + 0xc00), (0xc00, 0), TO_6 },
@@ -108,13 +108,13 @@ const LOADED: &[Loaded] = rows! { Loaded:
         }, l2_tables: &[L2_TABLE, 0xc00] },
 };
 
-// Counters of one bit, of which the first six are 1.
+// Refcounts of one bit, the first six of them 1.
 const NARROW: (u64, u64) = (96, 0x0000_0000_0000_0068);
 
 const NARROW_COUNTERS: (u64, u64) = (COUNTERS, 0x3f00_0000_0000_0000);
 
-// 400 unknown bytes in the header, and the backing file FI, whose name is bytes 1 and 2 of the image: with an
-// autoclear feature the text is to be placed anew, and has no room.
+// 400 unknown bytes in the header, and the backing file FI, whose name is bytes 1 and 2 of the image. The
+// autoclear bit makes a load for writing place the text anew, and it doesn't fit.
 const NO_ROOM: Numbers<'static> = counted! {
     (8, 1), (16, 0x0000_0002_0000_0009), AUTOCLEAR, (96, 0x0000_0004_0000_01f8)
 };
@@ -145,7 +145,7 @@ const UNREPAIRABLE: &[Unrepairable] = rows! { Unrepairable:
             NARROW, NARROW_COUNTERS, (COUNTERS_4, 0), (NEXT_ENTRY, REFTABLE), (THIRD_ENTRY, 0xa00)
         }, fault: Fault::Overlap },
     { name: "a header without room", changes: NO_ROOM, fault: Fault::HeaderTooLong },
-    // L1 tables that are too short for their disks, beside what else is refused
+    // L1 tables that are too short for their disks, also beside other reasons to refuse
     { name: "a cluster past the L1 table", changes: counted! { AUTOCLEAR, (24, 32769) },
         fault: Fault::L1Short },
     { name: "a table that no entry names any more",
@@ -160,12 +160,12 @@ const UNREPAIRABLE: &[Unrepairable] = rows! { Unrepairable:
         fault: Fault::L1Short },
 };
 
-/// Counters that a repair makes right.
+/// Refcounts that a repair corrects.
 pub(super) fn counts() -> &'static [Repair] {
     COUNTS
 }
 
-/// Flags that a repair makes right.
+/// Copied flags that a repair corrects.
 pub(super) fn flags() -> &'static [Repair] {
     FLAGS
 }

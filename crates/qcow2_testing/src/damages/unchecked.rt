@@ -14,7 +14,7 @@ const BITMAPS: Fault = Fault::Uncounted(UncountedPart::Bitmaps);
 
 const KEYS: Fault = Fault::Uncounted(UncountedPart::Encryption);
 
-// Headers that are refused.
+// Refused headers.
 const HEADERS: &[Refused] = rows! {
     Refused { name: "no magic", changes: counted! { (0, 0) }, fault: Fault::NotQcow2,
         place: "in IMAGE: byte 0: magic is 0x0\n" },
@@ -59,12 +59,12 @@ const HEADERS: &[Refused] = rows! {
         place: "in IMAGE: byte 72: incompatible_features is 0x2\n" },
 };
 
-// Header extensions that are refused.
+// Refused header extensions.
 const EXTENSIONS: &[Refused] = rows! {
     Refused { name: "an extension of 401 bytes", changes: counted! { (104, 0x0000_0007_0000_0191) },
         fault: Fault::ExtensionsExceed,
         place: "in IMAGE: byte 104: extension 0x7 of 401 bytes\n" },
-    // the first one ends eight bytes before the first cluster does, and the next with it
+    // the first one ends 16 bytes before the first cluster does: eight are left for the data of the second
     Refused { name: "a second extension that is too long",
         changes: counted! { (104, 0x0000_0007_0000_0180), (496, 0x0000_0009_0000_0009) },
         fault: Fault::ExtensionsExceed,
@@ -97,7 +97,7 @@ const EXTENSIONS: &[Refused] = rows! {
             in IMAGE: byte 120: extension 0x44415441 of 2 bytes\n" },
 };
 
-// Parts that refer to clusters and aren't read.
+// Parts that refer to clusters, which a check doesn't read.
 const UNCOUNTED: &[Refused] = rows! {
     Refused { name: "snapshots", changes: counted! { (60, 1 << 32) }, fault: SNAPSHOTS,
         place: "in IMAGE: byte 60: nb_snapshots is 1\n" },
@@ -114,7 +114,7 @@ const UNCOUNTED: &[Refused] = rows! {
     Refused { name: "LUKS with its header",
         changes: counted! { (32, 0x0000_0002_0000_0001), (104, 0x0537_be77_0000_0000) }, fault: KEYS,
         place: "in IMAGE: byte 104: extension 0x537be77 of 0 bytes\n" },
-    // kinds of encryption that may keep keys in clusters, without an extension that says where
+    // kinds of encryption that may keep keys in clusters, without an extension with their place
     Refused { name: "LUKS", changes: counted! { (32, 0x0000_0002_0000_0001) }, fault: KEYS,
         place: "in IMAGE: byte 32: crypt_method is 2\n" },
     Refused { name: "LUKS in version 2, whose extensions aren't read",
@@ -126,7 +126,7 @@ const UNCOUNTED: &[Refused] = rows! {
         place: "in IMAGE: byte 32: crypt_method is 4294967295\n" },
 };
 
-// Tables and entries that are refused.
+// Refused tables and entries.
 const TABLES: &[Refused] = rows! {
     Refused { name: "an L1 table of one entry too many", changes: counted! { (32, 0x40_0001) },
         fault: Fault::TableTooBig,
@@ -194,22 +194,22 @@ const TABLES: &[Refused] = rows! {
         place: "in IMAGE: guest offset 0x8400, L2 entry at 0xc10: c000000000000000\n" },
 };
 
-/// Headers that are refused.
+/// Refused headers.
 pub(super) fn headers() -> &'static [Refused] {
     HEADERS
 }
 
-/// Header extensions that are refused.
+/// Refused header extensions.
 pub(super) fn extensions() -> &'static [Refused] {
     EXTENSIONS
 }
 
-/// Parts that refer to clusters and aren't read.
+/// Parts that refer to clusters, which a check doesn't read.
 pub(super) fn uncounted() -> &'static [Refused] {
     UNCOUNTED
 }
 
-/// Tables and entries that are refused.
+/// Refused tables and entries.
 pub(super) fn tables() -> &'static [Refused] {
     TABLES
 }
