@@ -3,8 +3,8 @@
 //!
 //! `scripts/refuse-each-allocation` runs it with the number of each run, and refuses each of its
 //! allocations in turn. With `once` and `often` it makes calls that must allocate nothing, once or a
-//! thousand times. With `settled` and `refused` it makes edits whose refcounts follow or can't follow:
-//! these must allocate everything before the edits are looked at.
+//! thousand times. With `settled` and `refused` it makes edits that the refcounts follow or can't follow:
+//! both must allocate equally often, as all memory is taken before the refcounts are looked at.
 #![tactic(auto)]
 
 mod attempts;

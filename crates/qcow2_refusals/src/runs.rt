@@ -88,11 +88,11 @@ pub(crate) struct Run {
     pub(crate) modified: bool,
     /// The image of the call, if it takes one, without the numbers `before` or `after` the call.
     pub(crate) image: Option<Image>,
-    /// The alignment of the storage, as a power of two. A file has none.
+    /// The storage is aligned to 2^`align_bits` bytes. A file isn't.
     pub(crate) align_bits: u32,
     pub(crate) before: Numbers,
-    /// The numbers of the image after a command has loaded its header and rewritten it, or has repaired the
-    /// image.
+    /// The numbers of the image after a command has rewritten the header that it loaded, or has repaired
+    /// the image.
     pub(crate) opened: Numbers,
     pub(crate) after: Numbers,
     /// The numbers that change of what `Held::show` shows, with their places.

@@ -46,7 +46,7 @@ fn make_storage_calls(rt: &HostRuntime, checks: &mut Checks) {
     checks.expect(FileStorage::open(rt, "/dev/null", false).is_ok());
 }
 
-// Makes calls of an empty storage in memory, which a read finds zero.
+// Makes calls of an empty storage in memory. A read finds zeros.
 fn read(image: MemStorage, alignment_bits: u32, checks: &mut Checks) {
     let mut image = image.with_align(1 << alignment_bits.min(30));
     let mut bytes = [1u8; 16];

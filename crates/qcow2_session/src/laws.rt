@@ -41,9 +41,10 @@ pub use qcow2_image::laws::{
     an_l2_table_lies_apart_where_nothing_is_found,
 };
 
-/// If the image's bytes are known, a command that loads its header gets exactly the one that the grammar
-/// reads from them, or its fault, unless memory runs out or a call of the storage fails. A load for writing
-/// then clears the autoclear bits; any other load leaves the bytes unchanged.
+/// If the image's bytes are known, a command that loads its header gets exactly the header or the fault
+/// that the grammar finds in them, unless memory runs out or a call of the storage fails. If it loads the
+/// header for writing, that is the header without autoclear bits, or the fault of writing it. Otherwise the
+/// bytes stay.
 pub fn a_command_goes_by_the_header_of_its_bytes()
     ensures { (command : Command) (found : Result HeaderRecord Fault) (old left : StorageState) →
         FindsHeader (facts_of command) found old left → (facts_of command).cluster_bits ≡ None →
@@ -108,8 +109,8 @@ pub fn what_no_edit_covers_reads_as_before()
         ≡ guest_mapping (geometry_of header) plan.l1_table.numbers offset old }
 {}
 
-/// And each guest offset in some edit's range reads as the edits, one after the other, leave what it read
-/// as before, which is known.
+/// And each guest offset in some edit's range could be read before, and reads as the edits, one after the
+/// other, leave that mapping.
 pub fn what_edits_cover_reads_as_they_leave_it()
     ensures { (header : HeaderRecord) (edits : List GuestEdit) (plan : Plan) (old new : Image) →
         IsValidHeader header → IsPlanFor header edits plan → IsPlanOf header edits old plan →

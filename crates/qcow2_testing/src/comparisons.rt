@@ -79,7 +79,7 @@ pub fn holds<R: Debug + Drop>(condition: bool, row: R) -> Result<(), Fail>
     Err(Fail::new(format_args!("{row:?}: does not hold")))
 }
 
-/// Returns the values of a list from `start` to before `end`, and fails if the list is too short.
+/// Returns the values of a list from `start` to before `end`. Fails if the list doesn't have both.
 pub fn part_of<T>(list: &[T], start: usize, end: usize) -> Result<&[T], Fail> {
     match list.get(start..end) {
         Some(part) => Ok(part),

@@ -1,4 +1,4 @@
-//! `qmeta`: prints what a qcow2 image contains, and edits it.
+//! `qmeta`: prints and edits the metadata of a qcow2 image.
 #![tactic(auto)]
 
 use qcow2_base::{Fault, FileStorage};

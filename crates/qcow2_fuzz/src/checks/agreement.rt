@@ -195,7 +195,7 @@ fn agrees_with_map(
     }
 }
 
-// Lists a table that an L1 entry names with `l2`, and reports lines that `list` doesn't have.
+// Lists with `l2` a table that an L1 entry names, and reports lines other than those of `list`.
 fn check_l2(trial: &mut Trial<'_>, random: &mut Random, readings: &Readings) -> Result<(), Fault> {
     let fields = trial.fields;
     let tables = fields.named_tables(trial.alloc, trial.before)?;

@@ -53,7 +53,7 @@ pub(super) fn settle(held: &mut Held) -> Result<(), Fault> {
     tell(&mut held.out, &outcome)
 }
 
-// The same if the refcounts can't follow.
+// Succeeds if `settle` fails because the refcounts can't follow.
 pub(super) fn settle_in_vain(held: &mut Held) -> Result<(), Fault> {
     match settle(held) {
         Err(Fault::CounterRange) => Ok(()),

@@ -66,7 +66,7 @@ pub fn run_on_file<R: ImageFiles, O: Write>(
     told
 }
 
-// The result of a run beside other programs: if one has come to the image, the storage fault is 39.
+// The result of a run beside other programs: if one has come to the image, the storage fault becomes 39.
 fn unless_in_use(ran: Result<Verdict, Fault>, is_in_use: bool) -> Result<Verdict, Fault>
     ensures told { result ≡ told_beside is_in_use ran }
     ensures errs { IsErr ran → IsErr result }

@@ -38,7 +38,7 @@ impl Model for FileName {
 }
 
 impl FileName {
-    /// Copies a name. Fails only if memory for it runs out.
+    /// Makes a name from a word. Fails only if memory for it runs out.
     pub fn new(alloc: Global, word: &str) -> Result<FileName, AllocError>
         ensures { IfOk result (λ name. name ≡ word.now) }
     {
