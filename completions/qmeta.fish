@@ -3,20 +3,20 @@
 # The commands, each with what may stand at each place after it, and what it does. Words in capitals stand for others; `..`
 # repeats the last.
 set -g __qmeta_commands \
-    'info IMAGE:what the header says' \
-    'list IMAGE:what each mapped guest cluster reads as' \
-    'map IMAGE json:what the whole disk reads as, extent by extent' \
-    'at IMAGE OFFSET:what one guest offset reads as' \
-    'tables IMAGE:where the header, tables and refcount blocks lie' \
-    'layout IMAGE svg:what each host cluster is, in runs or as a picture' \
-    'refcount IMAGE CLUSTER..:the counters of host clusters' \
-    'check IMAGE json|repair:whether counters and flags are what the tables say' \
-    'apply IMAGE plan|EDIT EDIT..:change what ranges of the disk read as, with all counters' \
-    'edit IMAGE L1INDEX EDIT..:change mappings of one L2 table, and no counter' \
-    'count IMAGE CLUSTER STEP..:change counters of one refcount block' \
+    'info IMAGE:the main fields of the header' \
+    'list IMAGE:the mapping of each mapped guest cluster' \
+    'map IMAGE json:the mapping of the whole disk, extent by extent' \
+    'at IMAGE OFFSET:the mapping of one guest offset' \
+    'tables IMAGE:the places of the header, tables and refcount blocks' \
+    'layout IMAGE svg:the content of each host cluster, in runs or as a picture' \
+    'refcount IMAGE CLUSTER..:the refcounts of host clusters' \
+    'check IMAGE json|repair:whether refcounts and copied flags match the references' \
+    'apply IMAGE plan|EDIT EDIT..:change what ranges of the disk read as, with all refcounts' \
+    'edit IMAGE L1INDEX EDIT..:change entries of one L2 table, and no refcount' \
+    'count IMAGE CLUSTER STEP..:change refcounts of one refcount block' \
     'l2 IMAGE CLUSTER_BITS CLUSTER:list one L2 table, whatever the header says' \
-    'help COMMAND:all commands, or what a command prints, with its statuses and faults' \
-    'explain FAULT IMAGE:what fault N means and what helps, or all faults' \
+    'help COMMAND:all commands, or the output, statuses and faults of a command' \
+    'explain FAULT IMAGE:the meaning of fault N and a remedy, or all faults' \
     'version:the version of this program'
 
 # What may stand at the cursor, as a command's line says it, one a line.

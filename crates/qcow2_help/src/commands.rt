@@ -6,28 +6,28 @@ ghost use Rattle.qcow2_help.specs.CommandTexts.{command_text, commands_text, ver
 const COMMANDS: &str = "\
 qmeta prints what a qcow2 disk image says about itself, and edits it.
 
-  info IMAGE                      what the header says
-  list IMAGE                      what each mapped guest cluster reads as
-  map IMAGE [json]                what the whole disk reads as, extent by extent
-  at IMAGE OFFSET                 what one guest offset reads as
-  tables IMAGE                    where the header, tables and refcount blocks lie
-  layout IMAGE [svg]              what each host cluster is, in runs or as a picture
-  refcount IMAGE CLUSTER..        the counters of host clusters
-  check IMAGE [json]              whether counters and flags are what the tables say
-  check IMAGE repair              make them so, and check what is left
-  apply IMAGE [plan] EDIT..       change what ranges of the disk read as, with all counters
-  edit IMAGE L1INDEX EDIT..       change mappings of one L2 table, and no counter
-  count IMAGE CLUSTER STEP..      change counters of one refcount block
+  info IMAGE                      the main fields of the header
+  list IMAGE                      the mapping of each mapped guest cluster
+  map IMAGE [json]                the mapping of the whole disk, extent by extent
+  at IMAGE OFFSET                 the mapping of one guest offset
+  tables IMAGE                    the places of the header, tables and refcount blocks
+  layout IMAGE [svg]              the content of each host cluster, in runs or as a picture
+  refcount IMAGE CLUSTER..        the refcounts of host clusters
+  check IMAGE [json]              whether refcounts and copied flags match the references
+  check IMAGE repair              correct them, and check the result
+  apply IMAGE [plan] EDIT..       change what ranges of the disk read as, with all refcounts
+  edit IMAGE L1INDEX EDIT..       change entries of one L2 table, and no refcount
+  count IMAGE CLUSTER STEP..      change refcounts of one refcount block
   l2 IMAGE CLUSTER_BITS CLUSTER   list one L2 table, whatever the header says
-  help [COMMAND]                  this text, or what a command prints, with its statuses and faults
+  help [COMMAND]                  this text, or the output, statuses and faults of a command
   COMMAND --help                  the same as help COMMAND, except after info, list, at, edit, count and l2
-  explain [N]                     what fault N means and what helps, or all faults
-  explain N IMAGE                 the same, and where in the image it is
+  explain [N]                     the meaning of fault N and a remedy, or all faults
+  explain N IMAGE                 the same, and its place in the image
   version                         the version of this program
 
 Begin with `qmeta info disk.qcow2` and `qmeta check disk.qcow2`: both only read.
-The status is 0 for success, 1 for a fault, 2 for words that are no command. `check` also has 3 and 4.
-Faults 34 and 35, of a failed call and of memory, may come at any time.
+The status is 0 for success, 1 for a fault, 2 for a usage error. `check` also has 3 and 4.
+Any command may end in fault 34 (a failed system call) or 35 (no memory).
 ";
 
 const VERSION: &str = "\
@@ -38,11 +38,11 @@ proved with rattle-kit-13f logic dac8208d650f15bf
 const INFO: &str = "\
 qmeta info IMAGE
 
-Prints what the header says, in ten lines: version, cluster-bits, size, refcount-order, l1, refcount-table,
+Prints the header's main fields in ten lines: version, cluster-bits, size, refcount-order, l1, refcount-table,
 backing, format, external, data-file. A cluster has 2^cluster-bits bytes. Only reads. An IMAGE may have any
 name, also `--help`.
 
-Status 0: printed. 1: a fault. Faults: 34 where the file can't be opened or read, 1 to 17 of the header.
+Status 0: printed. 1: a fault. Faults: 34 if the file can't be opened or read, 1 to 17 of the header.
 
   $ qmeta info disk.qcow2
 ";
@@ -50,8 +50,8 @@ Status 0: printed. 1: a fault. Faults: 34 where the file can't be opened or read
 const LIST: &str = "\
 qmeta list IMAGE
 
-Prints a line for each guest cluster that isn't left to the backing file: its guest offset, and one of
-`data OFFSET`, `zero`, `zero OFFSET`, `compressed OFFSET LENGTH`. ` copied` says that the cluster has one
+Prints a line for each guest cluster that the image maps: its guest offset, and one of `data OFFSET`, `zero`,
+`zero OFFSET`, `compressed OFFSET LENGTH`. ` copied` means that the copied flag is set: the cluster has one
 reference. Only reads. An IMAGE may have any name, also `--help`.
 
 Status 0: printed. 1: a fault; lines before it stay. Faults: those of `info`, and 18 to 21 of the L1 table or
@@ -64,7 +64,7 @@ const MAP: &str = "\
 qmeta map IMAGE
 qmeta map IMAGE json
 
-Prints what the whole disk reads as, in extents: guest offset, length, and one of `data OFFSET`, `zero`,
+Prints the mapping of the whole disk in extents: guest offset, length, and one of `data OFFSET`, `zero`,
 `zero OFFSET`, `compressed`, `backing`. Numbers are hexadecimal. With `json` it prints a list of objects as
 `qemu-img map --output=json` does. Only reads.
 
@@ -76,7 +76,7 @@ Status 0: printed. 1: a fault; extents before it stay. Faults: those of `list`.
 const AT: &str = "\
 qmeta at IMAGE OFFSET
 
-Prints what the guest cluster with the guest offset OFFSET reads as: what `list` prints after an offset, or
+Prints the mapping of the guest cluster that has the guest offset OFFSET: as `list` prints it, or
 `backing OFFSET`. OFFSET is decimal; a shell turns hexadecimal into it by $((0x20100000)). Only reads. An
 IMAGE may have any name, also `--help`.
 
@@ -88,10 +88,10 @@ Status 0: printed. 1: a fault. Faults: those of `info`, and 18 to 21 of the L1 t
 const TABLES: &str = "\
 qmeta tables IMAGE
 
-Prints where everything lies, by host clusters: `header 0 1`, `l1 FIRST COUNT`, `l2 L1INDEX CLUSTER OFFSET
-LENGTH COUNTER` for each L2 table, with what it maps of the disk, `refcount-table FIRST COUNT`, and
-`refcount-block INDEX CLUSTER FIRST` for each block, with the first cluster that it counts. L1INDEX is that of
-`edit`, and CLUSTER that of `l2` and `count`. L2 tables aren't read. Only reads.
+Prints the place of each table by host clusters: `header 0 1`, `l1 FIRST COUNT`, `l2 L1INDEX CLUSTER OFFSET
+LENGTH COUNTER` for each L2 table, with the range of the disk that it maps and its refcount, `refcount-table
+FIRST COUNT`, and `refcount-block INDEX CLUSTER FIRST` for each block, with the first cluster that it counts.
+`edit` takes the L1INDEX, `l2` and `count` take the CLUSTER. L2 tables aren't read. Only reads.
 
 Status 0: printed. 1: a fault, and no line. Faults: those of `info`, and 18 to 21 of the L1 table or of the
 refcount table.
@@ -103,11 +103,11 @@ const LAYOUT: &str = "\
 qmeta layout IMAGE
 qmeta layout IMAGE svg
 
-Prints what each host cluster is, from 0 up to the last one in use, in lines `FIRST COUNT PART`. PART is one
-of `header`, `l1`, `l2`, `refcount-table`, `refcount-block`, `data OFFSET` with the guest offset of the first
-cluster, `compressed`, `leaked`, `free`. One that is used as several is the first of `header`, `l1`,
-`refcount-table`, `refcount-block`, `l2`, and else what the lowest guest offset has there. With `svg` it
-prints a picture with a legend, of at most 200 kB, for a browser. Only reads.
+Prints the content of each host cluster, from 0 to the last one in use, in lines `FIRST COUNT PART`. PART is
+one of `header`, `l1`, `l2`, `refcount-table`, `refcount-block`, `data OFFSET` with the guest offset of the
+first cluster, `compressed`, `leaked`, `free`. A cluster with several uses is the first of `header`, `l1`,
+`refcount-table`, `refcount-block`, `l2` among them, else the content of the lowest guest offset. With `svg`
+it prints a picture with a legend, of at most 200 kB, for a browser. Only reads.
 
 Status 0: printed. 1: a fault; only 34 and 35 come after a line. Faults: those of `check` without `repair`.
 
@@ -117,7 +117,7 @@ Status 0: printed. 1: a fault; only 34 and 35 come after a line. Faults: those o
 const REFCOUNT: &str = "\
 qmeta refcount IMAGE CLUSTER..
 
-Prints a line for each host cluster: CLUSTER, a space, and its counter, which is 0 where no block counts it. A
+Prints a line for each host cluster: CLUSTER, a space, and its refcount, which is 0 if no block counts it. A
 CLUSTER is decimal: the OFFSET that other commands print, divided by 2^cluster-bits. Only reads.
 
 Status 0: printed. 1: a fault, and no line. Faults: those of `info`, and 18 to 21 of the refcount table.
@@ -130,17 +130,17 @@ qmeta check IMAGE
 qmeta check IMAGE json
 qmeta check IMAGE repair
 
-Compares the counter of each host cluster with its uses, and each copied flag with the counter. Prints
-`leaked`, `missing` and `shared` with FIRST COUNT COUNTER USES, and `false` and `late` flags. `short-l1
+Compares the refcount of each host cluster with its references, and each copied flag with the refcount.
+Prints `leaked`, `missing` and `shared` with FIRST COUNT COUNTER USES, and `false` and `late` flags. `short-l1
 ENTRIES NEEDED` says that the L1 table is too short for the disk. The last line is `consistent`, or how many
 there are of each. With `json` it prints numbers, as `qemu-img check --output=json` does. With `repair` it
-makes counters and flags right first; without it only reads.
+corrects refcounts and flags first; without it, it only reads.
 
 Status 0: consistent. 1: a fault. 3: only leaks and late flags, which harm nobody if the file is whole.
 4: anything worse.
 Faults: those of `info`; 37 with snapshots, bitmaps or LUKS encryption; 18 to 21 of the tables. With
-`repair` also 39 where somebody else has the image open, 41 where the L1 table is too short, 21 where a
-table is past the end of the image's file, and 38, 30 or 24 where it can't be repaired.
+`repair` also 39 if another process has the image open, 41 if the L1 table is too short, 21 if a table lies
+past the end of the image's file, and 38, 30 or 24 if the image can't be repaired.
 
   $ qmeta check disk.qcow2
 ";
@@ -149,18 +149,19 @@ const APPLY: &str = "\
 qmeta apply IMAGE EDIT..
 qmeta apply IMAGE plan EDIT..
 
-Changes what ranges of the disk read as, with all counters. A crash leaves leaks at most, where tables and
-blocks are apart, as `check` shows. With `plan` it prints the same and writes nothing. Without it, autoclear
-features are cleared, so persistent bitmaps are lost, and their clusters leak: `qemu-img check -r leaks` frees
-them. `plan` says how many bitmaps there are by a last line, `stale-bitmaps N`. An EDIT is one of
+Changes what ranges of the disk read as, with all refcounts. A crash leaves leaks at most, if no two tables
+or blocks share a cluster, as `check` shows. With `plan` it prints the same and writes nothing. Without it, it
+clears the autoclear bits: persistent bitmaps are lost and their clusters leak until `qemu-img check -r leaks`
+frees them. The last line of `plan`, `stale-bitmaps N`, says how many bitmaps there are. An EDIT is one of
 
-  discard:OFFSET:LENGTH    the range is left to the backing file; discard:OFFSET is one cluster
-  zero:OFFSET:LENGTH       it reads as zeros
-  keep:OFFSET:LENGTH       it reads as zeros, and keeps its clusters
-  map:OFFSET:CLUSTER       a guest cluster is the data in a host cluster that is free
+  discard:OFFSET:LENGTH    unmaps the range, which reads as the backing file; discard:OFFSET is one cluster
+  zero:OFFSET:LENGTH       makes the range read as zeros
+  keep:OFFSET:LENGTH       makes it read as zeros, and keeps its clusters
+  map:OFFSET:CLUSTER       maps a guest cluster to the data in a free host cluster
 
 OFFSET and LENGTH are multiples of the cluster size, LENGTH not 0, decimal or with 0x. It prints `freed FIRST
-COUNT` for clusters that are free now, `kept CLUSTER COUNTER` for those that others use, `gained CLUSTER`.
+COUNT` for clusters that are free now, `kept CLUSTER COUNTER` for those with references left, `gained
+CLUSTER` for mapped ones.
 
 Status 0: made. 1: a fault. Faults: those of `info`; 39, 41, 36, 32, 27, 23, 40, 30, and 18 to 21 of the
 tables. All but 34 and 39 come before a byte changes. `qmeta explain N` says more.
@@ -171,14 +172,14 @@ tables. All but 34 and 39 come before a byte changes. `qmeta explain N` says mor
 const EDIT: &str = "\
 qmeta edit IMAGE L1INDEX EDIT..
 
-Changes entries of the L2 table of an L1 entry, and no counter: `apply` is safer. An EDIT is one of
-map:INDEX:CLUSTER, zero:INDEX, keep:INDEX, discard:INDEX. It prints `freed FIRST COUNT` and `gained
-CLUSTER`, whose counters are yours to change by `count`. Autoclear features are cleared, so persistent bitmaps
-are lost, and a raw external data file is no longer marked as raw. Copy the image first. An IMAGE may have any
-name, also `--help`.
+Changes entries of the L2 table of an L1 entry, and no refcount: `apply` is safer. An EDIT is one of
+map:INDEX:CLUSTER, zero:INDEX, keep:INDEX, discard:INDEX. It prints `freed FIRST COUNT` and `gained CLUSTER`:
+change their refcounts by `count`. It clears the autoclear bits, so persistent bitmaps are lost, and a raw
+external data file is no longer marked as raw. Copy the image first. An IMAGE may have any name, also
+`--help`.
 
-Status 0: all edits are made, and on the device. 1: a fault; none is made, but that 34 and 39 may leave a
-part, or all. Faults: those of `info`; 39, 24, 23, 32, and 18 to 21 of the tables.
+Status 0: all edits are made, and on the device. 1: a fault, and no edit is made; only 34 and 39 may leave
+some or all of them. Faults: those of `info`; 39, 24, 23, 32, and 18 to 21 of the tables.
 
   $ qmeta edit disk.qcow2 1 discard:16
 ";
@@ -186,14 +187,14 @@ part, or all. Faults: those of `info`; 39, 24, 23, 32, and 18 to 21 of the table
 const COUNT: &str = "\
 qmeta count IMAGE CLUSTER STEP..
 
-Changes counters of the refcount block that begins with a host cluster. A STEP is inc:INDEX or dec:INDEX. It
-prints `ok` and the counter before each step, or `refused` where it would pass 0 or the greatest number.
-CLUSTER is your word: whatever lies there is changed. Autoclear features are cleared, so persistent bitmaps
-are lost, and a raw external data file is no longer marked as raw. Copy the image first. An IMAGE may have any
+Changes refcounts of the refcount block that begins with a host cluster. A STEP is inc:INDEX or dec:INDEX. It
+prints `ok` and the refcount before each step, or `refused` if the step would pass 0 or the greatest number.
+It trusts CLUSTER, and changes whatever lies there. It clears the autoclear bits, so persistent bitmaps are
+lost, and a raw external data file is no longer marked as raw. Copy the image first. An IMAGE may have any
 name, also `--help`.
 
-Status 0: the steps are made, but for those refused, and on the device. 1: a fault; none is made, but that 34
-and 39 may leave a part, or all. Faults: those of `info`; 39, 24, 21, 33.
+Status 0: all steps but the refused ones are made, and on the device. 1: a fault, and no step is made; only
+34 and 39 may leave some or all of them. Faults: those of `info`; 39, 24, 21, 33.
 
   $ qmeta count disk.qcow2 2 dec:9
 ";
@@ -201,10 +202,10 @@ and 39 may leave a part, or all. Faults: those of `info`; 39, 24, 21, 33.
 const L2: &str = "\
 qmeta l2 IMAGE CLUSTER_BITS CLUSTER
 
-Lists the L2 table that begins with a host cluster, and doesn't look at the image's header. A line has the
-index of an entry and what `list` prints. Only reads. An IMAGE may have any name, also `--help`.
+Lists the L2 table that begins with a host cluster, without a look at the image's header. A line has the
+index of an entry, and its mapping as `list` prints it. Only reads. An IMAGE may have any name, also `--help`.
 
-Status 0: printed. 1: a fault. Faults: 34 where the file can't be opened or read, 18, 19 and 21 of the table.
+Status 0: printed. 1: a fault. Faults: 34 if the file can't be opened or read, 18, 19 and 21 of the table.
 
   $ qmeta l2 disk.qcow2 16 8
 ";
@@ -219,16 +220,15 @@ qmeta explain N IMAGE
 qmeta version
 
 `help` prints all commands, or one command's words, lines, statuses and faults. `explain` prints all faults,
-or of fault N what must hold, what mostly breaks it, and what helps. With IMAGE it goes on with lines on where
-in the image that is: the field of the header, the extension or the entry, each with its place and its value,
-or the system's word on the file. Only reads. `--help`, `-h` and `--version` do the same as `help` and
-`version`. These open no image.
+or the rule that fault N breaks, the usual cause and a remedy. With IMAGE it adds the place in the image: the
+header's field, the extension or the entry, each with its offset and value, or the system's error for the
+file. Only reads. `--help`, `-h` and `--version` do the same as `help` and `version`. These open no image.
 
 Alone after a COMMAND, `--help` or `-h` prints its help. After `info`, `list`, `at`, `edit`, `count` and `l2`
-it names an image instead, as `./--help` does after any.
+it names an image instead, as `./--help` does after any command.
 
-Status 0: printed, also where the image doesn't have the fault. 1: fault 34, where the output failed, or with
-IMAGE a read; with IMAGE also 35.
+Status 0: printed, even if the image doesn't have the fault. 1: fault 34 if the output or, with IMAGE, a read
+failed; with IMAGE also 35.
 
   $ qmeta explain 17
   $ qmeta explain 18 disk.qcow2

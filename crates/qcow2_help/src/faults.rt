@@ -137,10 +137,10 @@ const TABLE_PLACE: &str = "\
 fault 21, TablePlace: A table or a refcount block must end at or below offset 2^56.
 An offset in the header or in a table is damaged, or a CLUSTER on the command line is too large.
 Look at the number that was given, or restore the header or the table from a copy.
-`check IMAGE repair` ends so too where a cluster of a table or block begins at or past the end of
-the image's file: it reads as zeros, and a repair would free all that the real one names.
-Copy the image first, and run `qemu-img check`. `explain 21 IMAGE` says which table that is: look
-whether the file was cut, or what names the table is damaged.
+`check IMAGE repair` and `apply` also refuse a table or block with a cluster past the end of the
+image's file: it reads as zeros, so a repair would free all that the real one names. The file was
+cut short, or the offset of the table is damaged; `explain 21 IMAGE` names the table. Copy the image
+first, then run `qemu-img check`.
 ";
 
 const NO_OFFSET: &str = "\
@@ -158,7 +158,7 @@ Let the guest write there first, or map another cluster.
 
 const HEADER_TOO_LONG: &str = "\
 fault 24, HeaderTooLong: The header with its names must fit the first cluster.
-It has autoclear features, must be written anew without them, and grows by that.
+A change must clear autoclear bits, and so writes the header anew, which makes it longer.
 Shorten the backing file's name by `qemu-img rebase -u -b NAME -F FORMAT IMAGE`.
 ";
 
@@ -195,9 +195,9 @@ Tell whoever wrote that program.
 
 const COUNTER_RANGE: &str = "\
 fault 30, CounterRange: A refcount must stay from 0 to the greatest number of its width.
-A counter is wrong already, or more entries refer to a cluster than its counter can say.
-Run `qmeta check IMAGE`; where a repair ends in this fault, copy the image by `qemu-img convert -O
-qcow2 IMAGE NEW`.
+A refcount is wrong already, or a cluster has more references than its refcount can hold.
+Run `qmeta check IMAGE`; if a repair ends in this fault, copy the image by `qemu-img convert -O qcow2
+IMAGE NEW`.
 ";
 
 const WRONG_LENGTH: &str = "\
@@ -214,16 +214,16 @@ Look at the edits again by `qmeta info` and `qmeta at`; none was made.
 ";
 
 const BAD_STEP: &str = "\
-fault 33, BadStep: Each step must name a counter of the refcount block.
+fault 33, BadStep: Each step must name a refcount of the refcount block.
 An INDEX is past the end of the block.
-A block has 2^(cluster-bits + 3 - refcount-order) counters, by the numbers of `qmeta info`; no step
+A block has 2^(cluster-bits + 3 - refcount-order) refcounts, by the numbers of `qmeta info`; no step
 was made.
 ";
 
 const STORAGE: &str = "\
 fault 34, Storage: Each call of the file and of the output must succeed.
-The file is missing, is a directory or may not be opened; or a read, a write, the wait for the
-device or the output failed, as where the disk is full or a pipe was closed.
+The file is missing, is a directory or may not be opened; or a read, a write, an fsync or the output
+failed, for example because the disk is full or a pipe was closed.
 Look at the path, its permissions, the disk's space and the output; after a failed write run `qmeta
 check IMAGE`.
 ";
@@ -231,24 +231,23 @@ check IMAGE`.
 const NO_MEMORY: &str = "\
 fault 35, NoMemory: Memory must be left.
 The machine or its limits have too little for the tables of this image.
-Try again with more; nothing was changed, but that `edit` and `count` may have
-written the header anew, and a repair may have made some or all of its steps.
+Try again with more. Nothing was changed, except that `edit` and `count` may have written the header
+anew, and a repair may have made some or all of its steps.
 ";
 
 const EXTERNAL_DATA: &str = "\
-fault 36, ExternalData: Clusters must have counters in the image, and those of an external data file \
-have none.
+fault 36, ExternalData: The image must have no external data file, whose clusters have no refcounts.
 `apply` was asked to edit an image with an external data file.
-Use `qmeta edit`, which changes no counter.
+Use `qmeta edit`, which changes no refcount.
 ";
 
 const UNCOUNTED: &str = "\
-fault 37, Uncounted: All that refers to clusters must be read, and snapshots, bitmaps and encryption \
-with keys in the image (LUKS) aren't.
-`check` or `layout` was asked of an image that has one of these, or whose header is damaged and says so.
-Run `qemu-img check`, which counts them, with LUKS by `--object secret,id=K,file=F --image-opts
-driver=qcow2,file.filename=IMAGE,encrypt.key-secret=K`. Only where the header is damaged restore it
-from a copy.
+fault 37, Uncounted: The image must have no snapshots, bitmaps or LUKS encryption, whose references \
+aren't counted.
+`check`, its repair or `layout` was asked of an image that has one of them, or its header is damaged.
+Run `qemu-img check`, which counts them; for LUKS give it `--object secret,id=K,file=F --image-opts
+driver=qcow2,file.filename=IMAGE,encrypt.key-secret=K`. If the header is damaged, restore it from a
+copy.
 ";
 
 const OVERLAP: &str = "\
@@ -258,19 +257,19 @@ Restore the image from a copy, or save what can be read by `qemu-img convert -O 
 ";
 
 const IN_USE: &str = "\
-fault 39, InUse: An image that is changed must be used by nobody else.
-A virtual machine, a program of QEMU's or another `qmeta` has it open, or opened it while it was changed:
-what was done by then stays, as after a crash. Or nobody knows, and nothing was done: the system's list of
-locks can't be read, as in a chroot without /proc, or lists no locks of the file.
-End that program first; `fuser -v IMAGE` names it. Then run `qmeta check IMAGE`. Without a list make sure
-that nobody has the image open, and set QMETA_NO_LOCK_LIST=allow in the environment.
+fault 39, InUse: No other process may use an image that is changed.
+A virtual machine, one of QEMU's programs or another `qmeta` has the image open. If it opened the image
+during the change, the writes up to then stay, as after a crash. Or `qmeta` can't tell and has changed
+nothing: the system's list of locks, /proc/locks, is missing or doesn't have the file's locks.
+End that program; `fuser -v IMAGE` names it. Then run `qmeta check IMAGE`. Without the list make sure that
+nobody has the image open, and set QMETA_NO_LOCK_LIST=allow in the environment.
 ";
 
 const SHARED: &str = "\
 fault 40, Shared: An L2 table that `apply` edits must have one reference, and its L1 entry must say so.
-A snapshot shares the table, or its counter or copied flag is wrong.
-With snapshots let the guest write there first, or delete them; without any run `qmeta check IMAGE
-repair`.
+A snapshot shares the table, or its refcount or copied flag is wrong.
+If the image has snapshots, let the guest write there first, or delete them; else run `qmeta check
+IMAGE repair`.
 ";
 
 const L1_SHORT: &str = "\
