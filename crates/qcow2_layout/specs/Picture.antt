@@ -11,7 +11,7 @@ use Rattle.qcow2_layout.specs.declared.parts.Part.TheVariants.{Compressed, Data,
 use Rattle.qcow2_layout.specs.declared.parts.Run.{Run}
 use Rattle.qcow2_layout.specs.declared.picture.Shape.{Shape}
 
--- the colour of a part, which is the greater the more it strikes the eye: free clusters, guest data by the eighths of a disk of
+-- the colour of a part, which is the greater the more severe it is: free clusters, guest data by the eighths of a disk of
 -- this size, compressed data, header and mapping tables, refcounts, and leaked clusters
 abbrev pub shade_of : ℕ → Part → ℕ
 shade_of size Free = 0

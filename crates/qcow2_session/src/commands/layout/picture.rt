@@ -41,7 +41,7 @@ const LEGEND: &str = "\
 <path class='s5' d='M56 24h14v14h-14z'/><path class='s6' d='M70 24h14v14h-14z'/>
 <path class='s7' d='M84 24h14v14h-14z'/><path class='s8' d='M98 24h14v14h-14z'/>
 <text x='120' y='36'>data, from the start of the guest's disk to its end</text>
-<text y='60'>each square has the colour of what strikes most in it, rows from the left and the top on</text>
+<text y='60'>each square has the colour of its most severe content; rows run from left to right</text>
 <text y='84'>clusters in a square: ";
 
 /// Prints the picture of an image with this header, of at most 200 kB. Returns the fault of `picture_of`
