@@ -1,4 +1,4 @@
-//! What edits of a disk leave of images.
+//! Images after edits of their disks.
 
 use crate::sized_image::{
     Content, Guest, LARGE, LARGEST, NARROW, Shape, WIDE, guest_cluster, host_cluster, sized_image,
@@ -10,7 +10,7 @@ use qcow2_testing::{each, put, rows, same, same_image};
 use std::alloc::Global;
 use std::test::Fail;
 
-// An edit, by the index of its first guest cluster among the six of an image.
+// An edit, given by the index of its first guest cluster among the six of an image.
 #[derive(Clone, Copy)]
 enum Change {
     Map { guest: u64, host: u64 },
@@ -20,7 +20,7 @@ enum Change {
     DiscardAll,
 }
 
-// What an image has before some edits and after them, and whether it is consistent then.
+// The content of an image before and after some edits, and whether it is consistent afterwards.
 #[derive(Clone, Copy)]
 struct Applied<'a> {
     name: &'a str,
@@ -30,7 +30,7 @@ struct Applied<'a> {
     consistent: bool,
 }
 
-// Content in two lines.
+// Makes content, in two lines.
 macro_rules! content {
     ([$($guest:ident$(($host:literal))?),*], $counters:expr) => {
         Content { guests: &[$(Guest::$guest$(($host))?),*], counters: $counters }
@@ -48,7 +48,7 @@ const COMPRESSED: Content<'static> = content!(
     [4, 1, 0, 1, 1, 0]
 );
 
-// Content with data of two guest clusters.
+// Content with a host cluster of two guest clusters.
 const SHARED: Content<'static> = content!(
     [Shared(0), Nothing, Nothing, Shared(0), Nothing, Nothing],
     [2, 0, 0, 0, 0, 0]
@@ -126,7 +126,7 @@ const IN_LARGE: Applied<'static> = Applied {
     consistent: true,
 };
 
-// Edits of images whose counters have more than one bit.
+// Edits of images with refcounts of more than one bit.
 const COUNTED: &[Applied<'static>] = rows! { Applied:
     { name: "compressed data in a cluster that has more", before: COMPRESSED,
         edits: &[Change::Discard { guest: 1, count: 3 }],
@@ -154,7 +154,7 @@ const COUNTED: &[Applied<'static>] = rows! { Applied:
         consistent: false },
 };
 
-// The edit of an image that a change is.
+// Returns a change as an edit of an image.
 fn edit_of(shape: Shape<'_>, change: Change) -> GuestEdit {
     let size = shape.cluster_size;
     let offset = |guest: u64| -> GuestOffset {
@@ -213,7 +213,7 @@ fn check_edited(
     same_image(image, sized_image(alloc, shape, row.after), name)
 }
 
-// The same of an image that is consistent before.
+// Does the same with an image that is consistent before, and checks its consistency afterwards.
 fn check_shape(alloc: Global, shape: Shape<'_>, row: Applied<'_>) -> Result<(), Fail> {
     let name = (row.name, shape.name);
     let mut image = sized_image(alloc, shape, row.before)?;
@@ -256,7 +256,7 @@ fn so_with_larger_clusters(rt: HostRuntime) -> Result<(), Fail> {
     check_shapes(rt.alloc(), LARGE, IN_LARGE)
 }
 
-// Whether the largest image is consistent would take too long.
+// A check of the largest image's consistency would take too long.
 #[test]
 fn so_with_the_largest_clusters(rt: HostRuntime) -> Result<(), Fail> {
     let alloc = rt.alloc();
@@ -264,7 +264,7 @@ fn so_with_the_largest_clusters(rt: HostRuntime) -> Result<(), Fail> {
     check_edited(alloc, &mut image, LARGEST, IN_LARGE)
 }
 
-// An image of larger clusters with an offset of 512 in a table.
+// Returns an image of larger clusters with an offset of 512 in a table.
 fn unaligned_image(alloc: Global, shape: Shape<'_>) -> Result<MemStorage, Fault> {
     let mut image = sized_image(alloc, shape, PLAIN)?;
     put(&mut image, shape.cluster_size.wrapping_mul(4), 512)?;

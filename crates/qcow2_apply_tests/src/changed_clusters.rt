@@ -1,4 +1,4 @@
-//! What becomes of the clusters that edits of a disk give references, or take them from.
+//! The lists of clusters that edits of a disk free, keep and gain.
 
 use crate::small_image::{OTHER_BLOCK, OTHER_TABLE, discard, header_of, map, small_image};
 use qcow2_apply::{ChangedClusters, GuestEdit, KeptCluster, Plan, apply_edits};
@@ -9,7 +9,7 @@ use qcow2_testing::{COPIED, Numbers, each, recorded, same, same_image};
 use std::alloc::Global;
 use std::test::Fail;
 
-// Changes of the image, edits of its disk, and what becomes of clusters.
+// Changes of the image, edits of its disk, and the lists of clusters that the edits return.
 #[derive(Clone, Copy)]
 struct Changed<'a> {
     name: &'a str,
@@ -20,7 +20,7 @@ struct Changed<'a> {
     gained: &'a [HostCluster],
 }
 
-// A range of clusters.
+// Makes a range of clusters.
 macro_rules! range {
     ($first:literal, $count:literal) => {
         ClustersToFreeEntry { first: HostCluster($first), count: ClusterCount($count) }

@@ -1,4 +1,4 @@
-//! Counters in an image that follow what clusters gained and lost.
+//! Refcounts that follow the references that clusters gained and lost.
 
 use crate::small_image::{OTHER_BLOCK, small_image};
 use qcow2_apply::{Changes, CounterTables, follow_changes};
@@ -11,8 +11,8 @@ use qcow2_testing::{Numbers, StorageCall, each, recorded, rows, same, same_image
 use std::alloc::Global;
 use std::test::Fail;
 
-// Clusters that gained a reference, runs of clusters that lost one by their first and their number, how the
-// image has changed then, and the fault, if there is one.
+// Clusters that gained a reference, runs of clusters that lost one, each as its first cluster and its length,
+// the changes of the image that follow, and the fault, if any.
 #[derive(Clone, Copy)]
 struct Followed<'a> {
     name: &'a str,
@@ -43,7 +43,7 @@ const FOLLOWED: &[Followed<'static>] = rows! { Followed:
         fault: Some(Fault::CounterRange) },
 };
 
-// What clusters gained and lost.
+// Returns gained and lost clusters as an outcome.
 fn outcome_of(alloc: Global, gained: &[u64], lost: &[(u64, u64)]) -> Result<Outcome, Fault> {
     let mut outcome = Outcome {
         gained: Vec::new(alloc),
@@ -61,7 +61,7 @@ fn outcome_of(alloc: Global, gained: &[u64], lost: &[(u64, u64)]) -> Result<Outc
     Ok(outcome)
 }
 
-// Lets the counters of an image follow the outcome.
+// Makes the refcounts of an image follow the outcome.
 fn follow<S: Device>(alloc: Global, image: &mut S, outcome: &Outcome) -> Result<(), Fault> {
     let header = Header::load(alloc, image, false)?;
     if header.external_data_file() {

@@ -1,4 +1,4 @@
-//! Which edits of L2 tables edits of a disk are, and which can't be made of a disk.
+//! Edits of a disk as edits of its L2 tables, and those that don't fit the disk.
 
 use crate::small_image::small_image;
 use qcow2_apply::{GuestEdit, edits_in, first_unfit};
@@ -9,8 +9,8 @@ use qcow2_testing::{each, row_error, rows, same};
 use std::alloc::Global;
 use std::test::Fail;
 
-// An edit of a disk, and those of the L2 table of an L1 entry that it is. Clusters have 512 bytes, and tables
-// 64 entries.
+// An edit of a disk, and the edits that it makes in the L2 table of an L1 entry. Clusters have 512 bytes, and
+// tables 64 entries.
 #[derive(Clone, Copy)]
 struct InTable<'a> {
     name: &'a str,
@@ -93,7 +93,7 @@ const RANGES: &[Range<'static>] = rows! { Range:
     { name: "the greatest offset and length", offset: u64::MAX - 511, length: u64::MAX - 511, fits: false },
 };
 
-// An offset of this disk, and whether it can be mapped to a host cluster.
+// An offset of this disk, a host cluster, and whether the offset can be mapped to it.
 #[derive(Clone, Copy)]
 struct Mapping<'a> {
     name: &'a str,
@@ -110,7 +110,7 @@ const MAPPINGS: &[Mapping<'static>] = rows! { Mapping:
     { name: "a host cluster that no entry can name", offset: 0, host_cluster: 1 << 47, fits: false },
 };
 
-// Whether the second of two edits is the first that doesn't fit, or both fit.
+// Checks that the second of two edits is the first that doesn't fit, or that both fit.
 fn check_fits(alloc: Global, edit: GuestEdit, fits: bool, name: &str) -> Result<(), Fail> {
     let header = Header::load(alloc, &mut small_image(alloc, &[])?, false)?;
     let expected = if fits { None } else { Some(1) };

@@ -1,5 +1,5 @@
-//! Tests of edits of guest ranges: which entries they are, counters that follow them, and tables that they
-//! change.
+//! Tests of edits of guest ranges: the entries that they edit, the refcounts that follow, and the changed
+//! tables.
 #![tactic(auto)]
 
 #[cfg(test)]

@@ -1,5 +1,5 @@
-//! Many edits over many L2 tables. Each is looked at for its own table alone: for all tables that would be
-//! 6553600000 times.
+//! Many edits over many L2 tables. The call looks at each edit for its own table alone; for all tables it
+//! would be 6553600000 looks.
 
 use crate::tables::edit;
 use qcow2_apply::GuestEdit;
@@ -8,15 +8,15 @@ use qcow2_testing::{COPIED, VERSION_3, image_with, put, same, same_image};
 use std::alloc::{AllocError, Global};
 use std::test::Fail;
 
-// Clusters of 512 bytes: an L1 table of 65536 entries from cluster 1 on, and the L2 tables of 64 entries that
-// they name from cluster 1025 on. Nothing else is read.
+// Clusters of 512 bytes: an L1 table of 65536 entries from cluster 1 on, and its L2 tables of 64 entries from
+// cluster 1025 on. No other cluster is read.
 const TABLES: u64 = 65536;
 
 const FIRST_TABLE: u64 = 1025 * 512;
 
 const EDITS: u64 = 100000;
 
-// The image, in which the first two entries of each table are data.
+// Returns the image, in which the first two entries of each table are data.
 fn many_tables(alloc: Global) -> Result<MemStorage, Fault> {
     let header = [
         (0, VERSION_3),
@@ -38,13 +38,13 @@ fn many_tables(alloc: Global) -> Result<MemStorage, Fault> {
     Ok(image)
 }
 
-// The table and the entry that an edit takes away. As the factor is odd, the edits pass all tables, in no
-// order, before they come to one again.
+// Returns the table and the entry that an edit discards. As the factor is odd, the edits visit every table,
+// in a scattered order, before any table a second time.
 fn discarded(edit: u64) -> (u64, u64) {
     (edit % TABLES * 40503 % TABLES, edit / TABLES)
 }
 
-// The discards of a cluster each.
+// Returns the edits, each a discard of one cluster.
 fn discards(alloc: Global) -> Result<Vec<GuestEdit>, AllocError> {
     let mut edits = Vec::new(alloc);
     for number in 0..EDITS {
@@ -57,7 +57,7 @@ fn discards(alloc: Global) -> Result<Vec<GuestEdit>, AllocError> {
     Ok(edits)
 }
 
-// The image without these entries.
+// Returns the image without these entries.
 fn without_discarded(alloc: Global) -> Result<MemStorage, Fault> {
     let mut image = many_tables(alloc)?;
     for number in 0..EDITS {

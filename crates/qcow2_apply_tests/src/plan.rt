@@ -1,4 +1,4 @@
-//! What edits of a disk are planned to do.
+//! Plans of edits of a disk.
 
 use crate::small_image::{OTHER_TABLE, discard, header_of, kept, map, small_image, zeros};
 use qcow2_apply::{Changes, GuestEdit, Plan};
@@ -12,7 +12,7 @@ use std::alloc::Global;
 use std::test::Fail;
 
 // Changes of the image, edits of its disk, and the clusters that gain and lose a reference, by the index of
-// the block that counts them.
+// the refcount block that counts them.
 #[derive(Clone, Copy)]
 struct Planned<'a> {
     name: &'a str,
@@ -22,7 +22,7 @@ struct Planned<'a> {
     losses: [&'a [ClustersToFreeEntry]; 2],
 }
 
-// Clusters that lose a reference.
+// Makes a range of clusters that lose a reference.
 macro_rules! lost {
     ($first:literal, $count:literal) => {
         &[ClustersToFreeEntry { first: HostCluster($first), count: ClusterCount($count) }]
@@ -90,7 +90,7 @@ fn plan_of(
     Plan::new(alloc, image, header, edits)
 }
 
-// Fails unless these are what the clusters of a block gain and lose.
+// Fails unless the clusters of a block gain and lose these references.
 fn check_changes(
     changes: &Changes,
     index: usize,
@@ -105,7 +105,7 @@ fn check_changes(
     same(outcome.freed.as_slice(), lost, (name, index))
 }
 
-// Fails unless a plan has the image's tables, and gains and losses each by themselves.
+// Fails unless a plan has the image's tables, and lists gains and losses separately.
 fn check_plan(plan: &Plan, row: &Planned<'_>) -> Result<(), Fail> {
     all_same! { row.name, plan.l1_table.entries() => 2, plan.reftable.entries() => 64 }?;
     for index in 0..2usize {

@@ -1,4 +1,4 @@
-//! Edits of a disk that are refused: by which fault, where several could be it, and before a byte changes.
+//! Refused edits of a disk: the fault, also if several apply, and an unchanged image.
 
 use crate::small_image::{OTHER_TABLE, apply, discard, header_of, kept, map, small_image, zeros};
 use qcow2_apply::{GuestEdit, Plan};
@@ -9,7 +9,7 @@ use qcow2_testing::{COPIED, Numbers, VERSION_2, each, printed, put_all, rows, sa
 use std::alloc::Global;
 use std::test::Fail;
 
-// Changes of the image, edits of its disk, and the fault, if there is one.
+// Changes of the image, edits of its disk, and the fault, if any.
 #[derive(Clone, Copy)]
 struct Refused<'a> {
     name: &'a str,
@@ -26,7 +26,7 @@ const OLD: (u64, u64) = (0, VERSION_2);
 
 const EXTERNAL: (u64, u64) = (72, 4);
 
-// A bad L1 entry, and an L1 table, a refcount table and a block past the end.
+// A bad L1 entry; an L1 table, a refcount table and a block past the end; and a bad refcount table entry.
 const BAD_L1_ENTRY: (u64, u64) = (L1_TABLE + 8, 1);
 
 const FAR_L1_TABLE: (u64, u64) = (40, 1 << 56);
@@ -37,7 +37,7 @@ const FAR_BLOCK: (u64, u64) = (REFTABLE + 8, 1 << 56);
 
 const BAD_REFTABLE_ENTRY: (u64, u64) = (REFTABLE + 8, 256);
 
-// No tables, tables that aren't only those of their L1 entry, and ones that can't be loaded.
+// Missing tables, tables whose L1 entry isn't their only reference, and tables that don't load.
 const NO_TABLE: (u64, u64) = (L1_TABLE, 0);
 
 const NO_OTHER_TABLE: (u64, u64) = (L1_TABLE + 8, 0);
@@ -50,13 +50,13 @@ const BAD_ENTRY: (u64, u64) = (L2_TABLE, 2);
 
 const BAD_OTHER_ENTRY: (u64, u64) = (OTHER_TABLE + 504, 2);
 
-// The counters of clusters 0 to 3, where the table in cluster 2 has no reference.
+// The refcounts of clusters 0 to 3, with refcount 0 for the table in cluster 2.
 const NO_REFERENCE: (u64, u64) = (BLOCK, 0x0001_0001_0000_0001);
 
-// A disk of 256 clusters, of which the L1 table has the first 128.
+// A disk of 256 clusters, of which the L1 table covers the first 128.
 const LONG_DISK: (u64, u64) = (24, 131072);
 
-// Data in a cluster that no block counts, in one whose counter is 0, and compressed data there.
+// Data in a cluster that no block counts, data in one with refcount 0, and compressed data there.
 const UNCOUNTED: (u64, u64) = (L2_TABLE, COPIED | 600 << 9);
 
 const FREE: (u64, u64) = (L2_TABLE, COPIED | 9 << 9);
@@ -65,7 +65,7 @@ const COMPRESSED: (u64, u64) = (L2_TABLE, 1 << 62 | 9 << 9);
 
 const OTHER_COMPRESSED: (u64, u64) = (OTHER_TABLE, 1 << 62 | 9 << 9);
 
-// The counter of cluster 9 is 1, and 2.
+// Refcount 1 of cluster 9, and refcount 2.
 const ONCE: (u64, u64) = (BLOCK + 16, 0x0000_0001_0000_0000);
 
 const TWICE: (u64, u64) = (BLOCK + 16, 0x0000_0002_0000_0000);
@@ -203,14 +203,14 @@ const BY_COUNTER: &[Refused<'static>] = rows! { Refused:
         edits: &[discard!(0, 1), map!(64 to 5)], fault: Some(Fault::BadEdit(1)) },
 };
 
-// The image with these changes, and an autoclear feature.
+// Returns the image with these changes, and an autoclear feature.
 fn image_of(alloc: Global, before: Numbers<'_>) -> Result<MemStorage, Fault> {
     let mut image = small_image(alloc, before)?;
     put_all(&mut image, AUTOCLEAR)?;
     Ok(image)
 }
 
-// The fault of a plan, if there is one.
+// Returns the fault of a plan, if it is refused.
 fn plan_fault(
     alloc: Global,
     image: &mut MemStorage,
@@ -220,7 +220,7 @@ fn plan_fault(
     Plan::new(alloc, image, header, edits).err()
 }
 
-// Fails where a plan, or edits that are refused, change something.
+// Fails if a plan, or refused edits, change a byte of the image or the header.
 fn check_refused(alloc: Global, row: Refused<'_>) -> Result<(), Fail> {
     let mut image = image_of(alloc, row.before)?;
     let mut header = header_of(alloc, &mut image)?;

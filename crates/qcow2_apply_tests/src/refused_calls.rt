@@ -1,5 +1,5 @@
-//! In which order edits of a disk reach the storage, what a call that it refuses leaves, and that of the
-//! header autoclear features change alone.
+//! The order of storage calls in edits of a disk, the image after a failed call, and the header, of which
+//! only autoclear features change.
 
 use crate::small_image::{
     OTHER_BLOCK, OTHER_TABLE, apply, discard, header_of, kept, map, small_image, zeros,
@@ -16,11 +16,11 @@ use qcow2_testing::{
 use std::alloc::{AllocError, Global};
 use std::test::Fail;
 
-// More calls of the storage than edits of the image make.
+// More storage calls than edits of the image make.
 const MOST_CALLS: u64 = 64;
 
-// Edits of a consistent image with these changes, and the writes of tables and blocks that come of them, with
-// waits for the device: no two in turn, and none before the first write.
+// Edits of a consistent image with these changes, and the writes and syncs that they make, without a sync
+// before the first write or right after another.
 #[derive(Clone, Copy)]
 struct Ordered<'a> {
     name: &'a str,
@@ -29,7 +29,7 @@ struct Ordered<'a> {
     calls: &'a [StorageCall],
 }
 
-// What makes the image consistent: data of both tables, which both blocks count.
+// Changes that make the image consistent: data of both tables, which both blocks count.
 const CONSISTENT: Numbers<'static> = &[(OTHER_TABLE, COPIED | 256 << 9), (OTHER_BLOCK, 1 << 48)];
 
 const AUTOCLEAR: (u64, u64) = (88, 1);
@@ -43,7 +43,7 @@ const COMPRESSED: Numbers<'static> = &[
     (BLOCK + 16, 0x0000_0003_0000_0000),
 ];
 
-// Calls, with what is written whole: the autoclear features, and a table or a block.
+// Writes: of the autoclear features, and of a whole table or block.
 const CLEARED: StorageCall = StorageCall::Write { offset: 88, len: 8 };
 
 macro_rules! written {
@@ -89,7 +89,7 @@ fn image_of(alloc: Global, before: Numbers<'_>) -> Result<MemStorage, Fault> {
     Ok(image)
 }
 
-// The calls that write or wait, but for a wait before the first write or right after another.
+// Returns the writes and syncs, without a sync before the first write or right after another.
 fn writes_of(alloc: Global, calls: &[StorageCall]) -> Result<Vec<StorageCall>, AllocError> {
     let mut writes = Vec::new(alloc);
     let mut is_waited = true;
@@ -122,7 +122,7 @@ fn gains_come_before_tables_and_losses_after_them(rt: HostRuntime) -> Result<(),
     each(rt.alloc(), ORDERED, check_ordered)
 }
 
-// The first cluster of an image that has more uses than its counter says, if there is one.
+// Returns the first cluster of an image with more references than its refcount says, if any.
 fn first_undercounted<S: Storage>(alloc: Global, image: &mut S) -> Result<Option<Finding>, Fault> {
     let header = header_of(alloc, image)?;
     let mut findings = Findings::new(alloc, image, &header)?;
@@ -137,7 +137,7 @@ fn first_undercounted<S: Storage>(alloc: Global, image: &mut S) -> Result<Option
     Ok(None)
 }
 
-// Fails unless the header is the image's.
+// Fails unless the header is that of the image.
 fn check_header(
     alloc: Global,
     image: &mut MemStorage,
@@ -149,8 +149,8 @@ fn check_header(
     same(found.as_str(), expected.as_str(), name)
 }
 
-// Makes edits while the call that comes after some others is refused, and reports whether there was one. No
-// call follows it, for what comes after a refused wait may reach the device before what was waited for.
+// Makes edits while the storage fails the call after the first `passes`, and returns whether there was one.
+// No call may follow it: after a failed sync a write may reach the device before what the sync was for.
 fn is_refused(alloc: Global, row: Ordered<'_>, passes: u64) -> Result<bool, Fail> {
     let mut image = recorded(alloc, image_of(alloc, row.before)?);
     let mut header = header_of(alloc, &mut image.inner)?;

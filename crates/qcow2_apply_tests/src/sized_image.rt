@@ -1,12 +1,12 @@
-//! Images of several cluster sizes and widths of counters, by what six guest clusters and six host clusters
-//! of them are.
+//! Images of several cluster sizes and refcount widths, given by the content of six guest clusters and six
+//! host clusters.
 
 use qcow2_base::{Fault, MemStorage};
 use qcow2_testing::{COPIED, VERSION_3, image_with, put, put_bytes, rows};
 use std::alloc::Global;
 
-/// A cluster size and a width of counters: how many bytes a cluster has, how many entries an L2 table, and
-/// how many counters a block.
+/// A cluster size in bytes and a refcount order, with the number of entries of an L2 table, and of refcounts
+/// of a block.
 #[derive(Clone, Copy)]
 pub(crate) struct Shape<'a> {
     pub(crate) name: &'a str,
@@ -17,7 +17,7 @@ pub(crate) struct Shape<'a> {
     pub(crate) counters: u64,
 }
 
-/// Clusters of 512 bytes, whose counters have one bit.
+/// Clusters of 512 bytes, with refcounts of one bit.
 pub(crate) const NARROW: Shape<'static> = Shape {
     name: "512 bytes, 1 bit",
     cluster_bits: 9,
@@ -27,7 +27,7 @@ pub(crate) const NARROW: Shape<'static> = Shape {
     counters: 4096,
 };
 
-/// Clusters of 512 bytes, whose counters have 16 or 64 bits.
+/// Clusters of 512 bytes, with refcounts of 16 or 64 bits.
 pub(crate) const WIDE: &[Shape<'static>] = rows! { Shape:
     { name: "512 bytes, 16 bits", cluster_bits: 9, cluster_size: 512, entries: 64, refcount_order: 4,
         counters: 256 },
@@ -53,30 +53,30 @@ pub(crate) const LARGEST: Shape<'static> = Shape {
     counters: 262144,
 };
 
-/// What a guest cluster is. Host clusters are named by their index among six: clusters 7 to 9, and the first
-/// three that the second block counts.
+/// The content of a guest cluster. Host clusters are named by their index among six: clusters 7 to 9, and the
+/// first three that the second block counts.
 #[derive(Clone, Copy)]
 pub(crate) enum Guest {
-    /// It has no data.
+    /// No data.
     Nothing,
     /// Zeros without a host cluster.
     Zeros,
-    /// Zeros that keep a host cluster, which nothing else refers to.
+    /// Zeros with a host cluster, which has no other reference.
     Kept(u64),
-    /// Data in a host cluster that nothing else refers to.
+    /// Data in a host cluster without another reference.
     Data(u64),
-    /// Data in a host cluster that something else refers to as well.
+    /// Data in a host cluster with another reference.
     Shared(u64),
     /// Compressed data in the first sector of a host cluster.
     First(u64),
-    /// Compressed data from the byte 16 of that sector on.
+    /// Compressed data from byte 16 of that sector on.
     Later(u64),
     /// Compressed data from 16 bytes before the end of a host cluster to the first sector of the next.
     Over(u64),
 }
 
-/// What is in an image: the guest clusters that are the first of the disk, the last two of the first L2
-/// table, the first two of the second one and the last of the disk; and the counters of the six host
+/// The content of an image: of the guest clusters that are the first of the disk, the last two of the first
+/// L2 table, the first two of the second one, and the last of the disk; and the refcounts of the six host
 /// clusters.
 #[derive(Clone, Copy)]
 pub(crate) struct Content<'a> {
@@ -84,7 +84,7 @@ pub(crate) struct Content<'a> {
     pub(crate) counters: [u8; 6],
 }
 
-/// The guest cluster at an index among the six.
+/// Returns the guest cluster at an index among the six.
 pub(crate) fn guest_cluster(shape: Shape<'_>, index: u64) -> u64 {
     let entries = shape.entries;
     match index {
@@ -97,7 +97,7 @@ pub(crate) fn guest_cluster(shape: Shape<'_>, index: u64) -> u64 {
     }
 }
 
-/// The host cluster at an index among the six.
+/// Returns the host cluster at an index among the six.
 pub(crate) fn host_cluster(shape: Shape<'_>, index: u64) -> u64 {
     if index < 3 {
         return index.wrapping_add(7);
@@ -105,7 +105,7 @@ pub(crate) fn host_cluster(shape: Shape<'_>, index: u64) -> u64 {
     shape.counters.wrapping_add(index.wrapping_sub(3))
 }
 
-// The number of the entry of a guest cluster.
+// Returns the L2 entry of a guest cluster.
 fn number_of(shape: Shape<'_>, guest: Guest) -> u64 {
     let size = shape.cluster_size;
     let offset = |index: u64| -> u64 { host_cluster(shape, index).wrapping_mul(size) };
@@ -124,8 +124,8 @@ fn number_of(shape: Shape<'_>, guest: Guest) -> u64 {
     }
 }
 
-// Puts the entry of the guest cluster at an index: in the table in cluster 4, or in that in cluster 5, which
-// follows it.
+// Writes the entry of the guest cluster at an index, into the table in cluster 4 or the next one in cluster
+// 5.
 fn put_guest(
     image: &mut MemStorage,
     shape: Shape<'_>,
@@ -137,7 +137,7 @@ fn put_guest(
     put(image, place, number_of(shape, guest))
 }
 
-// Puts the counter of a cluster into its block, in cluster 3 or 6. One that has one bit must be clear before.
+// Writes the refcount of a cluster into its block, in cluster 3 or 6. A refcount of one bit must be 0 before.
 fn put_counter(
     image: &mut MemStorage,
     shape: Shape<'_>,
@@ -175,8 +175,8 @@ fn put_counter(
     }
 }
 
-// The image without guest clusters and counters: the L1 table in cluster 1, and the refcount table in
-// cluster 2.
+// Returns the image without guest clusters and refcounts: the L1 table in cluster 1, and the refcount table
+// in cluster 2.
 fn empty_image(alloc: Global, shape: Shape<'_>) -> Result<MemStorage, Fault> {
     let size = shape.cluster_size;
     let place = |cluster: u64| -> u64 { size.wrapping_mul(cluster) };
@@ -198,7 +198,8 @@ fn empty_image(alloc: Global, shape: Shape<'_>) -> Result<MemStorage, Fault> {
     image_with(alloc, place(7) as usize, &numbers)
 }
 
-/// The image of a shape with this content. Its seven clusters of tables have the counter 1.
+/// Returns the image of a shape with this content. The refcounts of its seven clusters of header and tables
+/// are 1.
 pub(crate) fn sized_image(
     alloc: Global,
     shape: Shape<'_>,

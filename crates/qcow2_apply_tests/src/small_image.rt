@@ -15,7 +15,7 @@ pub(crate) const OTHER_TABLE: u64 = 3072;
 pub(crate) const OTHER_BLOCK: u64 = 3584;
 
 // A second L2 table in cluster 6, and a second block in cluster 7. L2 tables have 64 entries, and blocks 256
-// counters of 16 bits. Guest cluster 64 is the data in cluster 256, whose counter is 2.
+// refcounts of 16 bits. Guest cluster 64 is the data in cluster 256, whose refcount is 2.
 const SMALL: Numbers<'static> = counted! {
     LARGER,
     TWO_TABLES,
@@ -27,15 +27,15 @@ const SMALL: Numbers<'static> = counted! {
     (OTHER_BLOCK + 504, 0),
 };
 
-/// The sample image with these tables and changes.
+/// Returns the sample image with these tables and changes.
 pub(crate) fn small_image(alloc: Global, changes: Numbers<'_>) -> Result<MemStorage, Fault> {
     let mut image = sample_image(alloc, 9, SMALL)?;
     put_all(&mut image, changes)?;
     Ok(image)
 }
 
-// Edits of guest clusters of 512 bytes, in rows: one that is mapped to a host cluster, and some from one on
-// that become zeros, that become zeros and keep their host clusters, and that have no data.
+// Make edits of guest clusters of 512 bytes: a map to a host cluster; and for a number of consecutive
+// clusters zeros, zeros that keep their host clusters, and a discard.
 macro_rules! map {
     ($guest:literal to $host:expr) => {
         GuestEdit::Map { offset: GuestOffset($guest * 512), host_cluster: HostCluster($host) }
@@ -65,12 +65,12 @@ pub(crate) use kept;
 pub(crate) use map;
 pub(crate) use zeros;
 
-/// The header of an image.
+/// Loads the header of an image.
 pub(crate) fn header_of<S: Storage>(alloc: Global, image: &mut S) -> Result<Header, Fault> {
     Header::load(alloc, image, false)
 }
 
-/// Makes edits of a disk, without the clauses of the call.
+/// Makes edits of a disk: the call without its contract.
 pub(crate) fn apply<S: Device>(
     alloc: Global,
     image: &mut S,
@@ -81,7 +81,7 @@ pub(crate) fn apply<S: Device>(
     Ok(())
 }
 
-/// Whether an image is consistent.
+/// Returns whether an image is consistent.
 pub(crate) fn is_image_consistent<S: Storage>(alloc: Global, image: &mut S) -> Result<bool, Fault> {
     let header = header_of(alloc, image)?;
     is_consistent(alloc, image, &header)

@@ -1,4 +1,4 @@
-//! L2 tables of an image that edits of its disk change.
+//! L2 tables that edits of a disk change.
 
 use crate::small_image::{OTHER_TABLE, small_image};
 use qcow2_apply::{EditsByTable, GuestEdit, edit_tables, first_unfit};
@@ -10,7 +10,7 @@ use qcow2_testing::{COPIED, Numbers, StorageCall, each, recorded, rows, same, sa
 use std::alloc::Global;
 use std::test::Fail;
 
-// Changes of the image, edits of its disk, how it has changed by both, and the fault, if there is one.
+// Changes of the image, edits of its disk, the changes after both, and the fault, if any.
 #[derive(Clone, Copy)]
 struct Edited<'a> {
     name: &'a str,
@@ -70,7 +70,7 @@ const EDITED: &[Edited<'static>] = rows! { Edited:
         changes: &[(L2_TABLE, 2), (OTHER_TABLE, 0)], fault: None },
 };
 
-/// Makes edits in the tables of an image.
+/// Makes edits in the L2 tables of an image, without refcounts.
 pub(crate) fn edit<S: Device>(
     alloc: Global,
     image: &mut S,

@@ -1,4 +1,4 @@
-//! Locks as lines of a list have them, which of them bar writing, and an image that is held.
+//! Lines of `/proc/locks`, the locks that bar writing, and held images.
 
 mod listing;
 
@@ -10,7 +10,8 @@ use std::alloc::Global;
 use std::fs;
 use std::test::Fail;
 
-// A line, and the lock that it is of: its kind, both parts of its device, its inode and its bytes.
+// A line, and the lock that it describes: its kind, both parts of its device, its inode, and its first and
+// last byte.
 #[derive(Clone, Copy, Debug)]
 struct Listed {
     line: &'static str,
@@ -21,18 +22,18 @@ struct Listed {
 }
 
 const LISTED: &[Listed] = rows! { Listed:
-    // one who reads, by QEMU
+    // a reader's, by QEMU
     { line: "1: OFDLCK ADVISORY  READ -1 fe:00:10969592 100 101",
         kind: LockKind::Bytes, device: (254, 0), inode: 10969592, bytes: (100, 101) },
-    // the manual's, proc(5)
+    // from the manual, proc(5)
     { line: "1: POSIX  ADVISORY  READ  5433 08:01:7864448 128 128",
         kind: LockKind::Bytes, device: (8, 1), inode: 7864448, bytes: (128, 128) },
     { line: "2: FLOCK  ADVISORY  WRITE 1568 00:2f:32388 0 EOF",
         kind: LockKind::Whole, device: (0, 47), inode: 32388, bytes: (0, u64::MAX) },
-    // one that is waited for
+    // a lock that a process waits for
     { line: "17: -> POSIX  ADVISORY  WRITE 0 103:10203:5 203 EOF",
         kind: LockKind::Bytes, device: (259, 66051), inode: 5, bytes: (203, u64::MAX) },
-    // the list of a descriptor has it after a tab
+    // in a descriptor's list it stands after a tab
     { line: "\t1: FLOCK  ADVISORY  WRITE 16309 00:27:257 0 EOF",
         kind: LockKind::Whole, device: (0, 39), inode: 257, bytes: (0, u64::MAX) },
     // the largest numbers
@@ -64,15 +65,15 @@ fn a_line_of_a_list_is_its_lock(rt: HostRuntime) -> Result<(), Fail> {
 }
 
 const OTHERS: &[&'static str] = rows! {
-    // locks of other kinds, or of no file
+    // locks of other kinds, or without a file
     "4: LEASE  ACTIVE    READ  5433 08:01:7864448 0 EOF",
     "5: ACCESS ADVISORY  WRITE 5433 08:01:7864448 101 101",
     "6: UNKNOWN UNKNOWN  WRITE 5433 08:01:7864448 0 EOF",
     "7: POSIX  *NOINODE* WRITE 5433 <none>:0 0 EOF",
-    // lines that are cut
+    // truncated lines
     "", "1:", "1: ->", "1: POSIX", "1: POSIX  ADVISORY  READ 5433", "1: POSIX  ADVISORY  READ 5433 08:01:7",
     "1: POSIX  ADVISORY  READ 5433 08:01:7 101",
-    // other numbers
+    // malformed numbers
     "1: POSIX  ADVISORY  READ 5433 08:01 101 101", "1: POSIX  ADVISORY  READ 5433 0g:01:7 101 101",
     "1: POSIX  ADVISORY  READ 5433 08:01:7a 101 101", "1: POSIX  ADVISORY  READ 5433 08:01:7 0x65 101",
     "1: POSIX  ADVISORY  READ 5433 08:01:7 EOF EOF", "1: POSIX  ADVISORY  READ 5433 08:01:7 101 END",
@@ -162,7 +163,8 @@ fn only_a_file_that_is_there_is_held(rt: HostRuntime) -> Result<(), Fail> {
     same(fs::exists(&rt, path.as_str())?, false, path)
 }
 
-// What the system lists of a descriptor whose file is locked, and that lock in the list of all.
+// The system's list for a descriptor with a locked file, and two lists of all locks that have this lock; the
+// second also has one that bars writing.
 const OWN: &str = "pos:\t0\nflags:\t02100002\nlock:\t1: FLOCK  ADVISORY  WRITE 9 fe:01:7 0 EOF\n";
 
 const FREE: &str =
@@ -171,8 +173,8 @@ const FREE: &str =
 const BARRED: &str =
     "1: OFDLCK ADVISORY  READ -1 fe:01:7 201 201\n2: FLOCK  ADVISORY  WRITE 9 fe:01:7 0 EOF\n";
 
-// What the system lists of a descriptor and of all, and by which fault an image isn't held then, also where
-// nothing of it may be listed.
+// The system's lists for a descriptor and of all locks, and the fault of `hold_alone` with `Unlisted::Refuse`
+// and with `Unlisted::Allow`.
 #[derive(Clone, Copy, Debug)]
 struct Lists {
     own: Option<&'static str>,
@@ -184,14 +186,14 @@ struct Lists {
 const LISTS: &[Lists] = rows! { Lists:
     { own: Some(OWN), all: Some(FREE), refused: None, allowed: None },
     { own: Some(OWN), all: Some(BARRED), refused: Some(Fault::InUse), allowed: Some(Fault::InUse) },
-    // no list, one of which nothing is shown, and one that lacks the lock from here
+    // no list, an empty one, and ones without this process's lock
     { own: Some(OWN), all: None, refused: Some(Fault::InUse), allowed: None },
     { own: Some(OWN), all: Some(""), refused: Some(Fault::InUse), allowed: None },
     { own: Some(OWN), all: Some("1: FLOCK  ADVISORY  WRITE 9 fe:02:7 0 EOF\n"),
         refused: Some(Fault::InUse), allowed: None },
     { own: None, all: Some(FREE), refused: Some(Fault::InUse), allowed: None },
     { own: Some("pos:\t0\n"), all: Some(FREE), refused: Some(Fault::InUse), allowed: None },
-    // a line that doesn't end
+    // a line without an end
     { own: Some(OWN), all: Some("2: FLOCK  ADVISORY  WRITE 9 fe:01:7 0 EOF"), refused: None, allowed: None },
 };
 
@@ -216,7 +218,7 @@ fn an_image_of_which_nothing_is_listed_is_refused(rt: HostRuntime) -> Result<(),
     Ok(())
 }
 
-// As many lines as take several reads, and then those of a list.
+// Returns a list that takes several reads: this many lines, and then `end`.
 fn long_list(alloc: Global, lines: usize, end: &str) -> Result<String, Fail> {
     let mut list = String::new(alloc);
     for number in 0..lines {
@@ -252,7 +254,7 @@ fn a_long_list_is_read_to_its_end(rt: HostRuntime) -> Result<(), Fail> {
     check_long_list(&rt, endless.as_str(), Some(Fault::Storage))
 }
 
-// What the system lists, a call of an image that is held, and whether it succeeds.
+// The system's list of locks, a call on a held image, and whether it succeeds.
 type Step<'a> = (Option<&'a str>, Call, bool);
 
 #[derive(Clone, Copy, Debug)]
@@ -261,8 +263,7 @@ enum Call {
     Sync,
 }
 
-// Calls of an image one after the other, whether another program was seen to come, and the bytes that were
-// written by then.
+// Successive calls on an image, whether another program is seen, and the bytes written by then.
 #[derive(Clone, Copy, Debug)]
 struct Run {
     steps: &'static [Step<'static>],
@@ -274,25 +275,25 @@ const RUNS: &[Run] = rows! { Run:
     { steps: &[(Some(FREE), Call::Write, true), (Some(FREE), Call::Sync, true),
         (Some(FREE), Call::Write, true),
         (Some(FREE), Call::Sync, true)], is_in_use: false, written: &[1, 1] },
-    // before the first write, and it stays so
+    // before the first write, and from then on
     { steps: &[(Some(BARRED), Call::Write, false), (Some(FREE), Call::Write, false),
         (Some(FREE), Call::Sync, false)], is_in_use: true, written: &[] },
-    // before a wait is over
+    // before a sync has returned
     { steps: &[(Some(FREE), Call::Write, true), (Some(BARRED), Call::Sync, false),
         (Some(FREE), Call::Write, false)], is_in_use: true, written: &[1] },
-    // between a wait and the write after it
+    // between a sync and the write after it
     { steps: &[(Some(FREE), Call::Write, true), (Some(FREE), Call::Sync, true),
         (Some(BARRED), Call::Write, false)],
         is_in_use: true, written: &[1] },
-    // within a step nobody looks
+    // writes between two syncs don't look
     { steps: &[(Some(FREE), Call::Write, true), (Some(BARRED), Call::Write, true),
         (Some(BARRED), Call::Sync, false)],
         is_in_use: true, written: &[1, 1] },
-    // a list that is gone
+    // a missing list
     { steps: &[(Some(FREE), Call::Write, true), (None, Call::Sync, false)], is_in_use: true, written: &[1] },
 };
 
-// Makes the calls of a run, each write of one byte more, and returns how many bytes were written.
+// Makes the calls of a run, each write with one byte more, and returns the number of bytes written.
 fn make_calls<'a, S: Device>(
     image: &mut S,
     lists: &Listing<'a>,

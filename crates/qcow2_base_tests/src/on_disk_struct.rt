@@ -1,4 +1,4 @@
-//! Loads and stores of integers and of structures, each by each call.
+//! Loads and stores of integers and of structures, by each call.
 
 ghost use Rattle.std.specs.Prelude.{◌≡◌, false, [], ◌∷◌, refl, IfOk};
 ghost use Rattle.std.proofs.Common.{rules};
@@ -12,7 +12,7 @@ use qcow2_testing::{part_of, row_error, same, same_bytes};
 use std::fmt::Debug;
 use std::test::Fail;
 
-// Loads a structure whose fields stand at these places, if there are as many bytes.
+// Loads a structure whose fields stand at these offsets, if the slice is long enough.
 macro_rules! loaded {
     ($bytes:ident, $read:ident, $name:ident { $($field:ident: $at:literal),* }) => {{
         if $bytes.len() < Self::ON_DISK_SIZE {
@@ -22,7 +22,7 @@ macro_rules! loaded {
     }};
 }
 
-// Stores the fields at these places, if there are as many bytes.
+// Stores the fields at these offsets, if the slice is long enough.
 macro_rules! stored {
     ($bytes:ident, $write:ident, $value:ident { $($field:ident: $at:literal),* }) => {{
         if $bytes.len() < Self::ON_DISK_SIZE {
@@ -33,7 +33,7 @@ macro_rules! stored {
     }};
 }
 
-/// Fields one after the other, of three lengths.
+/// Consecutive fields of three lengths.
 #[derive(Clone, Copy, Debug, PartialEq, Eq)]
 struct TestBE {
     a: u32,
@@ -147,7 +147,7 @@ impl OnDiskStruct for TestAtomics {
     ghost loads_back = { λ order image a b held_a held_b. Prim.search rules };
 }
 
-/// Four bytes between the fields belong to none.
+/// Two fields with four unused bytes between them.
 #[derive(Clone, Copy, Debug, PartialEq, Eq)]
 struct TestGaps {
     first: u32,
@@ -184,7 +184,7 @@ impl OnDiskStruct for TestGaps {
     ghost loads_back = { λ order image a b held_a held_b. Prim.search rules };
 }
 
-/// One field.
+/// A single field.
 #[derive(Clone, Copy, Debug, PartialEq, Eq)]
 struct TestSingle {
     only: u64,
@@ -220,7 +220,7 @@ impl OnDiskStruct for TestSingle {
     ghost loads_back = { λ order image a b held_a held_b. Prim.search rules };
 }
 
-/// The three orders in which a value can be asked for.
+/// The three byte orders that a caller can ask for.
 #[derive(Clone, Copy, Debug)]
 enum Call {
     LittleEndian,
@@ -244,7 +244,7 @@ fn store<T: OnDiskStruct>(call: Call, value: &T, bytes: &mut [u8]) -> Result<(),
     }
 }
 
-/// Stores the value and loads it again, which gives the value, whatever type it has.
+/// Stores the value and loads it again; the result is the value, whatever its type.
 fn reload<T: OnDiskStruct + Drop>(value: &T, bytes: &mut [u8]) -> Result<T, Fault>
     ensures { IfOk result (λ loaded. loaded ≡ value.now) }
 {
@@ -254,8 +254,8 @@ fn reload<T: OnDiskStruct + Drop>(value: &T, bytes: &mut [u8]) -> Result<T, Faul
 
 const FILLED: [u8; 80] = [0xff; 80];
 
-/// That the call stores the value as these bytes into a buffer of bytes 0xff that is `len` long, leaves those
-/// that follow, and loads it from there, or that both are refused by this fault.
+/// Checks that the call stores the value as these bytes into a buffer of `len` bytes 0xff, leaves those that
+/// follow, and loads it back, or that both calls return this fault.
 fn check_left<T: OnDiskStruct + Copy + Debug + PartialEq>(
     call: Call,
     value: T,
@@ -280,7 +280,7 @@ fn check_left<T: OnDiskStruct + Copy + Debug + PartialEq>(
     same_bytes(part_of(&buffer, start, FILLED.len())?, past, (call, value))
 }
 
-/// That each call refuses to store the value into a buffer that is `len` long, leaves it, and
+/// Checks that each call refuses to store the value into a buffer of `len` bytes, leaves the buffer, and
 /// refuses to load from it.
 fn check_refusals<T: OnDiskStruct + Copy + Debug + PartialEq>(
     value: T,
@@ -292,7 +292,7 @@ fn check_refusals<T: OnDiskStruct + Copy + Debug + PartialEq>(
     check_left(Call::Native, value, &[], len, refused)
 }
 
-/// That the calls store the value as these bytes, need as many bytes, and leave `spare` that follow.
+/// Checks that the calls store the value as these bytes, need no fewer, and leave `spare` bytes that follow.
 fn check_each_call<T: OnDiskStruct + Copy + Debug + PartialEq>(
     value: T,
     little: &[u8],
@@ -326,7 +326,8 @@ fn integers_stand_in_the_order_asked_for_and_need_just_their_bytes() -> Result<(
     check_refusals(0x0102_0304_0506_0708u64, 9)
 }
 
-// That the calls store each structure as the bytes after its arrow, and leave three that follow.
+// Checks that the calls store each structure as the bytes after its arrow, and leave the three bytes that
+// follow.
 macro_rules! structures {
     ($($value:expr => $bytes:expr),* $(,)?) => {{
         $(check_each_call($value, &$bytes, &$bytes, 3)?;)*

@@ -1,4 +1,4 @@
-//! Storages in memory, and what the tests of all storages share.
+//! Storages in memory, and helpers for tests of all storages.
 
 mod buffered;
 mod files;
@@ -13,17 +13,17 @@ use std::alloc::Global;
 use std::fmt::Debug;
 use std::test::Fail;
 
-// The greatest end that a read or a write may have.
+// The largest end offset of a read or a write.
 pub(crate) const LIMIT: u64 = 1 << 56;
 
-// How many bytes a mebibyte has.
+// The bytes of a mebibyte.
 pub(crate) const MIB: usize = 1 << 20;
 
 fn memory(alloc: Global, bytes: &[u8]) -> Result<MemStorage, Fail> {
     Ok(MemStorage::new(Vec::from_slice(alloc, bytes)?))
 }
 
-// That `failures` calls have failed, which no call reports, but `Debug` writes.
+// Checks that `failures` calls have failed, which no call reports, but `Debug` prints.
 pub(crate) fn check_failures<S: Debug>(
     alloc: Global,
     storage: &S,
@@ -35,7 +35,7 @@ pub(crate) fn check_failures<S: Debug>(
     holds(found, (failures, shown))
 }
 
-// What a read returns.
+// Reads, and fails if the range ends past `LIMIT`.
 fn read<S: Storage>(storage: &mut S, bytes: &mut [u8], offset: u64) -> Result<(), StorageFault> {
     if offset > LIMIT || bytes.len() as u64 > LIMIT - offset {
         return Err(StorageFault);
@@ -43,7 +43,7 @@ fn read<S: Storage>(storage: &mut S, bytes: &mut [u8], offset: u64) -> Result<()
     storage.read(bytes, offset)
 }
 
-// What a write returns.
+// Writes, and fails if the range ends past `LIMIT`.
 pub(crate) fn write<S: Storage>(
     storage: &mut S,
     bytes: &[u8],
@@ -55,7 +55,7 @@ pub(crate) fn write<S: Storage>(
     storage.write(bytes, offset)
 }
 
-// That a read gives these bytes, and that one into an empty buffer does not fail.
+// Checks that a read returns these bytes, and that one into an empty buffer succeeds.
 pub(crate) fn check_bytes<S: Storage>(
     alloc: Global,
     storage: &mut S,
@@ -68,7 +68,7 @@ pub(crate) fn check_bytes<S: Storage>(
     same_bytes(&found, bytes, offset)
 }
 
-// That a read of four bytes fails and is call number `failures` that does.
+// Checks that a read of four bytes fails, as failure number `failures`.
 pub(crate) fn check_failed_read<S: Storage + Debug>(
     alloc: Global,
     storage: &mut S,
@@ -78,7 +78,7 @@ pub(crate) fn check_failed_read<S: Storage + Debug>(
     check_failures(alloc, storage, failures)
 }
 
-// That a write of these bytes fails and is call number `failures` that does.
+// Checks that a write of these bytes fails, as failure number `failures`.
 pub(crate) fn check_failed_write<S: Storage + Debug>(
     alloc: Global,
     storage: &mut S,
@@ -90,13 +90,13 @@ pub(crate) fn check_failed_write<S: Storage + Debug>(
     check_failures(alloc, storage, failures)
 }
 
-// An offset, and the four bytes that are read there.
+// An offset, and the four bytes there.
 const READS: &[(u64, [u8; 4])] = rows! {
     (2, [3, 4, 5, 0]), (0, [1, 2, 3, 4]), (LIMIT - 4, [0; 4]), (1, [2, 3, 4, 5]), (4, [5, 0, 0, 0]),
     (900, [0; 4]), (5, [0; 4]), (0, [1, 2, 3, 4]),
 };
 
-// That the bytes 1 to 5 are read by offset, with zeros past the end, and that no alignment is asked for.
+// Checks that the storage reads as the bytes 1 to 5, with zeros past the end, and needs no alignment.
 pub(crate) fn check_read<S: Storage + Debug>(alloc: Global, storage: &mut S) -> Result<(), Fail> {
     same((storage.mem_align(), storage.req_align()), (1, 1), "new")?;
     for (offset, bytes) in READS {
@@ -137,7 +137,7 @@ fn a_write_replaces_its_range_and_lengthens_with_zeros(rt: HostRuntime) -> Resul
     each(rt.alloc(), WRITES, check_written)
 }
 
-// A storage in memory, and one that passes calls on to it and fails at the second.
+// A storage in memory, below one that forwards calls to it and fails the second.
 #[test]
 fn a_sync_changes_nothing_and_a_failed_one_is_counted(rt: HostRuntime) -> Result<(), Fail> {
     let mut storage = FailingStorage::new(rt.alloc(), memory(rt.alloc(), &[1, 2, 3])?);
@@ -150,8 +150,8 @@ fn a_sync_changes_nothing_and_a_failed_one_is_counted(rt: HostRuntime) -> Result
     check_failures(rt.alloc(), &storage.inner, 0)
 }
 
-// What a storage over three bytes says of its length before, at and after a question that is planned to fail,
-// and once two bytes more are written.
+// The length of a storage over three bytes before, at and after a call that is planned to fail, and after a
+// write of two more bytes.
 #[test]
 fn a_length_is_asked_for_and_a_failed_question_is_counted(rt: HostRuntime) -> Result<(), Fail> {
     let mut storage = FailingStorage::new(rt.alloc(), memory(rt.alloc(), &[1, 2, 3])?);
@@ -168,7 +168,7 @@ fn a_length_is_asked_for_and_a_failed_question_is_counted(rt: HostRuntime) -> Re
     check_failures(rt.alloc(), &storage.inner, 0)
 }
 
-// No memory has room for an image that ends at 2^56.
+// Checks a write up to 2^56, which is refused: no memory has room for such an image.
 fn check_refused(alloc: Global, storage: &mut MemStorage, failures: u32) -> Result<(), Fail> {
     check_failed_write(alloc, storage, &[7, 8], LIMIT - 2, failures)?;
     same_bytes(storage.bytes(), &[1, 2, 3], failures)

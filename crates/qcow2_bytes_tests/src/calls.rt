@@ -1,4 +1,4 @@
-//! The calls without their clauses, so that no proof about a test has to read what a call ensures.
+//! The tested calls without their contracts, so that proofs about tests needn't read those.
 
 use qcow2_base::Fault;
 use qcow2_bytes::{

@@ -1,4 +1,4 @@
-//! What a check finds of a whole image in memory: clusters, as many as there is room for, and totals.
+//! Checks of a whole image in memory: findings, as many as there is room for, and totals.
 
 use crate::calls::image_check;
 use qcow2_base::Fault;
@@ -9,7 +9,7 @@ use qcow2_testing::{each, same};
 use std::alloc::Global;
 use std::test::Fail;
 
-// What the list has before the call.
+// An element of the list before the call.
 const OLD: FindingFields = FindingFields {
     kinds: 9,
     reserved: 9,
@@ -18,7 +18,8 @@ const OLD: FindingFields = FindingFields {
     uses: 9,
 };
 
-// The kinds are 1 for a leaked cluster, 2 for a missing one and 4 for a shared one, together.
+// Returns the expected finding. Its kinds are the sum of 1 for a leaked, 2 for a missing and 4 for a shared
+// cluster.
 fn fields(found: &FoundCluster) -> FindingFields {
     let is_leaked = found.counter > found.uses;
     let is_missing = found.counter < found.uses;
@@ -43,7 +44,7 @@ fn totals_of(row: &Damage) -> CheckTotals {
     }
 }
 
-// There is room for that many findings.
+// Checks an image with room for `room` findings.
 fn check_found(alloc: Global, row: &Damage, room: usize) -> Result<(), Fail> {
     let image = sample_image(alloc, 9, row.changes)?;
     let mut list = vec![in alloc; OLD; room]?;

@@ -1,4 +1,4 @@
-//! Edits in the bytes of an L2 table, and what refuses them.
+//! Edits of the bytes of an L2 table, and refused ones.
 
 use crate::calls::edit_l2_table;
 use crate::entries::fields;
@@ -15,8 +15,8 @@ const FOURTH: u64 = 32;
 
 const LAST: u64 = 504;
 
-// A table of 512 bytes, edits of it, and what they do: the ranges that lose a reference, the clusters that
-// gain one, and the numbers afterwards.
+// A table of 512 bytes, edits of it, and their effect: the ranges that lose a reference, the clusters that
+// gain one, and the entries afterwards.
 #[derive(Clone, Copy)]
 struct Edited {
     name: &'static str,
@@ -28,14 +28,14 @@ struct Edited {
     after: Numbers<'static>,
 }
 
-// Edits, each by its kind, the index of its entry, and an offset.
+// Makes edits, each from its kind, the index of its entry, and an offset.
 macro_rules! edits {
     ($($kind:literal $index:literal $offset:expr),* $(,)?) => {
         &[$(EditFields { kind: $kind, reserved: 7, index: $index, host_offset: $offset }),*]
     };
 }
 
-// Ranges of clusters, each by its first and how many there are.
+// Makes ranges of clusters, each from its first cluster and its length in clusters.
 macro_rules! clusters {
     ($($first:literal + $count:literal),* $(,)?) => {
         &[$(HostClusters { first: $first, count: $count }),*]
@@ -78,7 +78,7 @@ const EDITED: &[Edited] = rows! { Edited:
         freed: NONE, gained: &[], after: &[(THIRD, 0xa00)] },
 };
 
-// What a place of a list has that nothing was written to.
+// An unwritten element of a list.
 const OLD: HostClusters = HostClusters { first: 8, count: 7 };
 
 #[test]
@@ -111,7 +111,7 @@ fn check_edited(alloc: Global, row: Edited) -> Result<(), Fail> {
     check_list(&gained, row.gained, 9, row.name)
 }
 
-// Fails unless a list begins with these elements, and all after them are as before.
+// Fails unless a list begins with these elements, and all others are unchanged.
 fn check_list<T: Copy + PartialEq + std::fmt::Debug + Drop>(
     list: &[T],
     expected: &[T],
@@ -132,7 +132,7 @@ fn table_bytes(alloc: Global, len: usize, numbers: Numbers<'static>) -> Result<V
     Ok(bytes)
 }
 
-// Edits that are refused: of how many bytes, with how many places in both lists.
+// Refused edits, with the length of the table in bytes, and the number of places in both lists.
 #[derive(Clone, Copy)]
 struct Refused {
     name: &'static str,
@@ -146,7 +146,7 @@ struct Refused {
     refusal: EditRefusal,
 }
 
-// A table of which entry 3 is data in cluster 5, and an edit that takes that away and gives it cluster 6.
+// A table whose entry 3 is data in cluster 5, and edits that discard it and map cluster 6 instead.
 const REFUSED: Refused = Refused {
     name: "",
     version: 3,

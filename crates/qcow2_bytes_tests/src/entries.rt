@@ -1,4 +1,4 @@
-//! What numbers in L1 and L2 tables say.
+//! Entries of L1 and L2 tables.
 
 use crate::calls::{first_bad_l2_entry, l1_entry, l2_entry};
 use qcow2_base::{Fault, MemStorage};
@@ -12,7 +12,7 @@ pub(crate) const NONE: NameRange = NameRange {
     length: 0,
 };
 
-/// The fields of a header of which only these say something.
+/// Returns the fields of a header of version 3 in which only these values matter.
 pub(crate) fn fields(cluster_bits: u32, incompatible_features: u64) -> HeaderFields {
     HeaderFields {
         version: 3,
@@ -35,7 +35,7 @@ pub(crate) fn fields(cluster_bits: u32, incompatible_features: u64) -> HeaderFie
     }
 }
 
-// A number in an L1 table, and what it says as the offset and the flag, or why it is refused.
+// An L1 entry, and its offset and copied flag, or the fault that refuses it.
 #[derive(Clone, Copy, Debug)]
 struct Pointer {
     cluster_bits: u32,
@@ -65,8 +65,8 @@ fn l1_entries_say_where_l2_tables_lie(rt: HostRuntime) -> Result<(), Fail> {
     each(rt.alloc(), POINTERS, check_pointer)
 }
 
-// A number in an L2 table, the features of its image, and what guest offset 0x20_0001 reads as: the kind, the
-// flag, the offset and the length; or why it is refused.
+// An L2 entry, the features of its image, and the mapping of guest offset 0x20_0001: kind, copied flag,
+// offset and length; or the fault that refuses it.
 #[derive(Clone, Copy, Debug)]
 struct Entry {
     cluster_bits: u32,
@@ -113,7 +113,7 @@ fn l2_entries_say_what_their_guest_clusters_read_as(rt: HostRuntime) -> Result<(
     each(rt.alloc(), ENTRIES, check_entry)
 }
 
-// Fields that no header has: cluster bits and incompatible features, and the fault.
+// Invalid header fields: cluster bits, incompatible features, and the fault.
 const MADE_UP: &[(u32, u64, Fault)] = rows! {
     (0, 0, Fault::ClusterSize), (8, 0, Fault::ClusterSize), (22, 0, Fault::ClusterSize),
     (63, 0, Fault::ClusterSize), (u32::MAX, 1, Fault::ClusterSize),
@@ -134,7 +134,7 @@ fn fields_that_no_header_has_are_refused(rt: HostRuntime) -> Result<(), Fail> {
     each(rt.alloc(), MADE_UP, check_made_up)
 }
 
-// How many bytes of a table are given, and the first number that is no entry, or the fault.
+// The number of passed bytes of a table, and the first invalid entry, or the fault.
 const TABLES: &[(usize, Result<Option<(usize, Fault)>, Fault>)] = rows! {
     (0, Ok(None)), (24, Ok(None)), (32, Ok(Some((3, Fault::EntryReserved)))),
     (48, Ok(Some((3, Fault::EntryReserved)))), (1, Err(Fault::WrongLength)), (7, Err(Fault::WrongLength)),

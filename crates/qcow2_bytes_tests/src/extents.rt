@@ -1,5 +1,5 @@
-//! What the disk of a whole image in memory reads as, in extents: as many as there is room for, from any
-//! offset on, and those before a fault.
+//! Extents of the disk of a whole image in memory: as many as there is room for, from any offset on, and
+//! those before a fault.
 
 use crate::calls::image_extents;
 use qcow2_base::{Fault, MemStorage};
@@ -13,7 +13,7 @@ use qcow2_testing::{
 use std::alloc::Global;
 use std::test::Fail;
 
-// The sample image with a disk of two L2 tables, of 64 entries each, the second of which is cluster 3.
+// The sample image with a disk of two L2 tables of 64 entries each, the second of which is cluster 3.
 const IMAGE: Numbers<'static> = &[
     LARGER,
     TWO_TABLES,
@@ -38,13 +38,13 @@ const PARTS: [Part; 8] = [
     (3, 0xc00, 0x200, 0xe00),
     (4, 0xe00, 0x400, 0),
     (0, 0x1200, 0x6c00, 0x1200),
-    // goes on in the second table
+    // continues in the second table
     (1, 0x7e00, 0x400, 0x1000),
     (0, 0x8200, 0x7e00, 0x8200),
 ];
 
-// Changes of the image, how many of its bytes are given, from which offset on how many extents are asked for,
-// how many of the whole disk's come, and which others, and the fault.
+// Changes of the image, the number of its bytes that are passed, the first offset, the room for extents, how
+// many extents of the whole disk are expected, which other ones, and the fault.
 #[derive(Clone, Copy, Debug)]
 struct Row {
     changes: Numbers<'static>,
@@ -72,32 +72,32 @@ const ROWS: &[Row] = rows! {
     Row { room: 7, first: 7, ..ROW },
     Row { room: 1, first: 1, ..ROW },
     Row { room: 0, ..ROW },
-    // from within an extent on
+    // from the middle of an extent
     Row { from: 0x700, room: 1, others: &[(1, 0x700, 0x300, 0xb00)], ..ROW },
     Row { from: 0xa01, room: 1, others: &[(2, 0xa01, 0x1ff, 0)], ..ROW },
     Row { from: 0xd00, room: 1, others: &[(3, 0xd00, 0x100, 0xf00)], ..ROW },
     Row { from: 0x1001, room: 1, others: &[(4, 0x1001, 0x1ff, 0)], ..ROW },
     Row { from: 0x8100, others: &[(1, 0x8100, 0x100, 0x1300), (0, 0x8200, 0x7e00, 0x8200)], ..ROW },
     Row { from: 0xffff, others: &[(0, 0xffff, 1, 0xffff)], ..ROW },
-    // from the disk's end on
+    // at or past the disk's end
     Row { from: 0x1_0000, ..ROW },
     Row { from: u64::MAX, ..ROW },
     Row { changes: &[(24, 0)], ..ROW },
     Row { changes: &[(24, 0x7ff)], others: &[(0, 0, 0x600, 0), (1, 0x600, 0x1ff, 0xa00)], ..ROW },
-    // after the last byte there are zeros
+    // the image reads as zeros past its last byte
     Row { len: 0x600, from: 0x8000, others: &[(0, 0x8000, 0x8000, 0x8000)], ..ROW },
     Row { len: 0x200, others: &[(0, 0, 0x1_0000, 0)], ..ROW },
 };
 
 const FAULTS: &[Row] = rows! {
-    // the second table is read to know where the seventh extent ends
+    // the second table is read to find the end of the seventh extent
     Row { changes: &[(0x608, 2)], first: 6, fault: Some(Fault::EntryReserved), ..ROW },
     Row { changes: &[(0x608, 2)], room: 7, first: 6, fault: Some(Fault::EntryReserved), ..ROW },
     Row { changes: &[(0x608, 2)], room: 6, first: 6, ..ROW },
     Row { changes: &[(0x608, 2)], from: 0xffff, room: 1, fault: Some(Fault::EntryReserved), ..ROW },
-    // a first table that is refused isn't read from the second on
+    // a bad first table isn't read if the list begins in the second
     Row { changes: &[(0x408, 2)], from: 0x8200, others: &[(0, 0x8200, 0x7e00, 0x8200)], ..ROW },
-    // of the L1 table and of the header
+    // faults of the L1 table and of the header
     Row { changes: &[(0x208, 0x601)], room: 0, fault: Some(Fault::EntryReserved), ..ROW },
     Row { changes: &[(0x208, 1 << 56)], from: u64::MAX, fault: Some(Fault::EntryReserved), ..ROW },
     Row { changes: &[(32, 0xffff_ffff)], fault: Some(Fault::TableTooBig), ..ROW },
@@ -105,7 +105,7 @@ const FAULTS: &[Row] = rows! {
     Row { len: 0, fault: Some(Fault::NotQcow2), ..ROW },
 };
 
-// What the list has before the call.
+// An element of the list before the call.
 const OLD: ExtentFields = ExtentFields {
     kind: 9,
     reserved: 9,
@@ -124,7 +124,7 @@ fn fields((kind, guest_offset, length, offset): Part) -> ExtentFields {
     }
 }
 
-// The extents of a row, and then what was there before.
+// Returns the list that a row expects: its extents, and then unchanged elements.
 fn expected(alloc: Global, row: &Row) -> Result<Vec<ExtentFields>, Fail> {
     let mut list = Vec::new(alloc);
     for part in PARTS.iter().take(row.first).chain(row.others) {
@@ -166,7 +166,7 @@ fn extents_before_a_fault_are_put(rt: HostRuntime) -> Result<(), Fail> {
     each(rt.alloc(), FAULTS, check_row)
 }
 
-// How many bytes an image has, its numbers, and its extents from an offset on.
+// The length of an image in bytes, its numbers, and its extents from an offset on.
 #[derive(Clone, Copy, Debug)]
 struct Large {
     name: &'static str,
@@ -176,7 +176,8 @@ struct Large {
     parts: &'static [Part],
 }
 
-// Clusters of 64 KiB, of which each L2 table has 8192. The first and the last of 2048 L1 entries name one.
+// Clusters of 64 KiB, and L2 tables of 8192 entries. The first and the last of 2048 L1 entries name the same
+// table.
 const TERABYTE: Numbers<'static> = &[
     (0, VERSION_3),
     (16, 16),
@@ -191,7 +192,7 @@ const TERABYTE: Numbers<'static> = &[
     (0x2_fff8, 1),
 ];
 
-// Clusters of 2 MiB, of which an L2 table has 2^18.
+// Clusters of 2 MiB, and an L2 table of 2^18 entries.
 const LARGE_CLUSTERS: Numbers<'static> = &[
     (0, VERSION_3),
     (16, 21),

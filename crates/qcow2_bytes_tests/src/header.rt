@@ -1,4 +1,4 @@
-//! What the bytes of a first cluster say.
+//! Headers in the bytes of a first cluster.
 
 use crate::calls::{header_bytes, read_header};
 use crate::entries::NONE;
@@ -10,17 +10,17 @@ use std::test::Fail;
 
 const MAGIC: u64 = 0x5146_49fb_0000_0000;
 
-// The least header: version 3, clusters of 512 bytes, refcounts of 16 bits, no extensions.
+// The minimal header: version 3, clusters of 512 bytes, refcounts of 16 bits, no extensions.
 const LEAST: Numbers<'static> = &[(0, MAGIC + 3), (16, 9), (96, 0x4_0000_0068)];
 
-// The least header with other numbers, and 600 bytes with it.
+// Returns an image of 600 bytes: the minimal header with other numbers.
 fn least_with(alloc: Global, numbers: Numbers<'static>) -> Result<MemStorage, Fault> {
     let mut image = image_with(alloc, 600, LEAST)?;
     put_all(&mut image, numbers)?;
     Ok(image)
 }
 
-// How many bytes are given, other numbers in them, and the first cluster's length, or the fault.
+// The number of passed bytes, changes of them, and the length of the first cluster in bytes, or the fault.
 type Length = (usize, Numbers<'static>, Result<usize, Fault>);
 
 const LENGTHS: [Length; 12] = [
@@ -35,7 +35,7 @@ const LENGTHS: [Length; 12] = [
     (104, &[(16, 8)], Err(Fault::ClusterSize)),
     (104, &[(16, 22)], Err(Fault::ClusterSize)),
     (104, &[(16, 0xffff_ffff)], Err(Fault::ClusterSize)),
-    // other fields aren't looked at
+    // other fields aren't checked
     (104, &[(96, 0x7_0000_0000)], Ok(512)),
 ];
 
@@ -50,13 +50,13 @@ fn the_first_bytes_say_how_long_the_cluster_is(rt: HostRuntime) -> Result<(), Fa
     each(rt.alloc(), &LENGTHS, check_length)
 }
 
-// How many bytes are given, other numbers in them, and why they are refused.
+// The number of passed bytes, changes of them, and the fault that refuses them.
 type Refused = (usize, Numbers<'static>, Fault);
 
 const REFUSED: [Refused; 8] = [
     (511, &[], Fault::WrongLength),
     (600, &[(16, 10)], Fault::WrongLength),
-    // fewer bytes than the cluster has come before all conditions but those on its size
+    // bytes that end within the cluster are refused before all but its size is checked
     (511, &[(96, 0x7_0000_0068)], Fault::WrongLength),
     (511, &[(16, 8)], Fault::ClusterSize),
     (512, &[(96, 0x7_0000_0068)], Fault::RefcountWidth),
@@ -66,7 +66,7 @@ const REFUSED: [Refused; 8] = [
         &[(8, 509), (16, (4 << 32) + 9)],
         Fault::BackingNamePlace,
     ),
-    // what comes after the cluster isn't of the header
+    // bytes after the cluster don't belong to the header
     (600, &[(96, (4 << 32) + 505)], Fault::ExtensionsExceed),
 ];
 
@@ -85,7 +85,7 @@ fn a_header_is_refused_by_its_first_fault(rt: HostRuntime) -> Result<(), Fail> {
     each(rt.alloc(), &REFUSED, check_refused)
 }
 
-// Each field has a number of its own.
+// A header that sets each field.
 const FILLED: Numbers<'static> = &[
     (8, 508),
     (16, (4 << 32) + 9),
@@ -146,7 +146,7 @@ fn version_2_ends_after_72_bytes(rt: HostRuntime) -> Result<(), Fail> {
     }
 }
 
-// Bytes at place 104, and where the backing format and the data file's name lie then: offset and length.
+// Bytes at offset 104, and the offset and length of the backing format and of the data file's name.
 type Names = (&'static [u8], (u32, u32), (u32, u32));
 
 const NAMES: [Names; 7] = [
@@ -162,14 +162,14 @@ const NAMES: [Names; 7] = [
         (0, 0),
         (136, 2),
     ),
-    // the first of two that are the same, and an empty one
+    // the first of two equal extensions, and an empty one
     (
         b"DATA\0\0\0\x01a\0\0\0\0\0\0\0DATA\0\0\0\x01a",
         (0, 0),
         (112, 1),
     ),
     (b"DATA\0\0\0\0", (0, 0), (112, 0)),
-    // after End there is none
+    // no extension follows the end
     (b"\0\0\0\0\0\0\0\0DATA\0\0\0\x01a", (0, 0), (0, 0)),
 ];
 

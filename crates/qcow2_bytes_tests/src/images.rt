@@ -1,4 +1,4 @@
-//! What a whole image in memory says.
+//! Lookups in a whole image in memory.
 
 use crate::calls::image_lookup;
 use qcow2_base::{Fault, MemStorage};
@@ -7,7 +7,7 @@ use qcow2_testing::{COMPRESSED, COPIED, each, part_of, rows, same};
 use std::alloc::Global;
 use std::test::Fail;
 
-// The sample image with three entries more: data, zeros, and compressed data in the last one.
+// Returns the sample image with three more entries: data, zeros, and compressed data in the last one.
 fn image(alloc: Global) -> Result<MemStorage, Fault> {
     let entries = [
         (L2_TABLE, COPIED + 0x600),
@@ -18,8 +18,8 @@ fn image(alloc: Global) -> Result<MemStorage, Fault> {
     sample_image(alloc, 9, &entries)
 }
 
-// How many bytes of the image are given, a guest offset, and what its cluster reads as: the kind, the flag,
-// the offset and the length; or the fault.
+// The number of passed bytes of the image, a guest offset, and the mapping of its cluster: kind, copied flag,
+// offset and length; or the fault.
 #[derive(Clone, Copy, Debug)]
 struct Lookup {
     len: usize,
@@ -34,7 +34,7 @@ const LOOKUPS: &[Lookup] = rows! { Lookup:
     { len: 0x800, offset: 0x7fff, reads: Ok((4, 0, 0x601, 511)) },
     { len: 0x800, offset: 0x8000, reads: Ok((0, 0, 0x8000, 512)) },
     { len: 0x800, offset: u64::MAX, reads: Ok((0, 0, u64::MAX - 511, 512)) },
-    // after the last byte there are zeros
+    // the image reads as zeros past its last byte
     { len: 0x408, offset: 0x200, reads: Ok((0, 0, 0x200, 512)) },
     { len: 0x206, offset: 0, reads: Ok((0, 0, 0, 512)) },
     { len: 0, offset: 0, reads: Err(Fault::NotQcow2) },

@@ -1,4 +1,4 @@
-//! Tests of what bytes mean that a caller has read.
+//! Tests of the calls over bytes that the caller has read.
 #![tactic(auto)]
 
 #[cfg(test)]

@@ -1,4 +1,4 @@
-//! What the bytes of a refcount block say, and what they say once its counters followed an edit.
+//! Refcounts in the bytes of a refcount block, read, and settled after an edit.
 
 use crate::calls::{read_refcounts, settle_refcounts};
 use qcow2_base::{Fault, MemStorage};
@@ -7,8 +7,8 @@ use qcow2_testing::{each, image_with, rows, same, same_bytes};
 use std::alloc::Global;
 use std::test::Fail;
 
-// A block whose first and last eight bytes are 01 23 45 67 89 ab cd ef and whose others are 0: its size, its
-// refcount order, an index, and the counters from it on.
+// A block whose first and last eight bytes are 01 23 45 67 89 ab cd ef and whose others are 0: its size in
+// bytes, its refcount order, an index, and the refcounts from there on.
 #[derive(Clone, Copy, Debug)]
 struct Counters {
     size: usize,
@@ -29,7 +29,7 @@ const EACH_ORDER: &[Counters] = rows! { Counters:
     { size: 512, order: 6, first: 0, counters: &[0x0123_4567_89ab_cdef, 0] },
 };
 
-// The last counters of a block.
+// The last refcounts of a block.
 const LAST: &[Counters] = rows! { Counters:
     { size: 512, order: 6, first: 62, counters: &[0, 0x0123_4567_89ab_cdef] },
     { size: 1 << 16, order: 0, first: 524_280, counters: &[1, 1, 1, 1, 0, 1, 1, 1] },
@@ -62,8 +62,8 @@ fn the_last_counters_of_a_block_are_read(rt: HostRuntime) -> Result<(), Fail> {
     each(rt.alloc(), LAST, check_counters)
 }
 
-// How many bytes of a block are given, a refcount order, how many counters are asked for from an index on,
-// and the fault.
+// The length of a block in bytes, a refcount order, the first index and the number of the requested
+// refcounts, and the fault.
 #[derive(Clone, Copy, Debug)]
 struct Refused {
     len: usize,
@@ -82,7 +82,7 @@ const REFUSED: &[Refused] = rows! { Refused:
     { len: 513, order: 4, first: 0, count: 1, fault: Fault::WrongLength },
     { len: 1536, order: 4, first: 0, count: 1, fault: Fault::WrongLength },
     { len: 1 << 22, order: 4, first: 0, count: 1, fault: Fault::WrongLength },
-    // a block of 512 bytes has 256 counters of 16 bits
+    // a block of 512 bytes has 256 refcounts of 16 bits
     { len: 512, order: 4, first: 255, count: 2, fault: Fault::BadStep(1) },
     { len: 512, order: 4, first: 256, count: 1, fault: Fault::BadStep(0) },
     { len: 512, order: 4, first: 257, count: 0, fault: Fault::BadStep(0) },
@@ -103,9 +103,9 @@ fn what_is_no_part_of_a_block_is_refused(rt: HostRuntime) -> Result<(), Fail> {
     each(rt.alloc(), REFUSED, check_refused)
 }
 
-// The bytes of a block as numbers of eight bytes at places, its size, its refcount order and its index in the
-// refcount table. Then a range of clusters that lose a reference, its first and how many, and clusters that
-// gain one.
+// A block's size in bytes, its refcount order, its index in the refcount table, and its bytes as numbers of
+// eight bytes at offsets, before and after. Between them a range of clusters that lose a reference, as its
+// first cluster and its length, and clusters that gain one.
 #[derive(Clone, Copy, Debug)]
 struct Settled {
     size: usize,
@@ -133,7 +133,7 @@ const EACH_WIDTH: &[Settled] = rows! { Settled:
       freed: (0, 1), gained: &[1], after: &[(0, 0xffff_fffe_0000_0002)] },
     { size: 512, order: 6, index: 0, before: &[(0, u64::MAX)],
       freed: (0, 1), gained: &[1, 63], after: &[(0, u64::MAX - 1), (8, 1), (504, 1)] },
-    // a gain is counted before a loss
+    // gains are counted before losses
     { size: 512, order: 4, index: 0, before: &[], freed: (5, 1), gained: &[5], after: &[] },
 };
 
@@ -149,7 +149,7 @@ const EACH_SIZE: &[Settled] = rows! { Settled:
       freed: (0, u64::MAX), gained: &[u64::MAX], after: &[(0, 9)] },
 };
 
-// What settling leaves of the bytes that an image has, and what it returns.
+// Settles a row in the bytes of an image, and returns the result and the bytes afterwards.
 fn settle_in(
     alloc: Global,
     row: Settled,
@@ -190,7 +190,7 @@ fn counters_of_blocks_of_each_size_follow_an_edit(rt: HostRuntime) -> Result<(),
     each(rt.alloc(), EACH_SIZE, check_settled)
 }
 
-// The same, with a fault in place of what is left.
+// An edit that `settle_refcounts` refuses, with the fault.
 #[derive(Clone, Copy, Debug)]
 struct RefusedEdit {
     size: usize,

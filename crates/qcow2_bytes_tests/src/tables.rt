@@ -1,4 +1,4 @@
-//! What the entries in bytes of an L2 table read as, joined to extents.
+//! Extents of the entries in the bytes of an L2 table.
 
 use crate::calls::l2_extents;
 use crate::entries::fields;
@@ -9,10 +9,10 @@ use std::alloc::{AllocError, Global};
 use std::fmt::Debug;
 use std::test::Fail;
 
-// A kind, where the extent begins on the guest's disk, how many bytes it has, and where its content begins.
+// An extent: its kind, guest offset, length in bytes, and the offset of its content.
 type Part = (u32, u64, u64, u64);
 
-// What a place has that nothing was written to.
+// An unwritten element of the list.
 const OLD: Part = (9, 8, 7, 6);
 
 fn extent((kind, guest_offset, length, offset): Part) -> ExtentFields {
@@ -33,7 +33,7 @@ fn table_bytes(alloc: Global, numbers: &[u64]) -> Result<Vec<u8>, AllocError> {
     Ok(bytes)
 }
 
-// Fails unless the places have these extents, and all after them are as before.
+// Fails unless the list begins with these extents, and all other elements are unchanged.
 fn check_places<R: Debug + Copy + Drop>(
     places: &[ExtentFields],
     expected: &[Part],
@@ -46,7 +46,7 @@ fn check_places<R: Debug + Copy + Drop>(
     Ok(())
 }
 
-// Entries of which the first is for the guest cluster with an offset, and the extents that they join to.
+// Entries, the first of which maps the guest cluster at an offset, and the extents that they join to.
 #[derive(Clone, Copy, Debug)]
 struct Joined {
     cluster_bits: u32,
@@ -64,7 +64,7 @@ const SMALL: [Joined; 5] = [
         numbers: &[],
         extents: &[],
     },
-    // in one cluster after another, whatever the copied flags are
+    // in consecutive clusters, whatever the copied flags are
     Joined {
         cluster_bits: 9,
         features: 0,
@@ -83,7 +83,7 @@ const SMALL: [Joined; 5] = [
             (1, 0x400, 0x400, 0x400),
         ],
     },
-    // zeros, kept or not, and data where kept zeros would go on
+    // zeros with and without a host cluster, and data in the cluster that would continue the zeros
     Joined {
         cluster_bits: 9,
         features: 0,
@@ -96,7 +96,7 @@ const SMALL: [Joined; 5] = [
             (1, 0xa00, 0x200, 0x600),
         ],
     },
-    // no cluster has offset 0, with the flag or without it
+    // host offset 0 means no cluster, with or without the copied flag
     Joined {
         cluster_bits: 9,
         features: 0,
@@ -111,7 +111,7 @@ const SMALL: [Joined; 5] = [
 ];
 
 const OTHER: [Joined; 5] = [
-    // compressed data reads on wherever it lies
+    // compressed data joins wherever it lies
     Joined {
         cluster_bits: 9,
         features: 0,
@@ -142,7 +142,7 @@ const OTHER: [Joined; 5] = [
         numbers: &[COPIED + 1, 1, 1, COPIED + 1],
         extents: &[(3, 0, 0x200, 0), (2, 0x200, 0x400, 0), (3, 0x600, 0x200, 0)],
     },
-    // the greatest offsets
+    // the largest offsets
     Joined {
         cluster_bits: 21,
         features: 0,
@@ -204,7 +204,8 @@ fn as_many_extents_are_joined_as_there_is_room_for(rt: HostRuntime) -> Result<()
     each(rt.alloc(), rows, check_room)
 }
 
-// How many bytes are passed, of an entry that is one and others, and why they are refused.
+// The number of passed bytes of a table that has one entry of data and then equal ones, and the number of
+// extents, or the fault.
 #[derive(Clone, Copy, Debug)]
 struct Refused {
     cluster_bits: u32,
@@ -270,7 +271,7 @@ fn what_is_no_part_of_a_table_is_refused(rt: HostRuntime) -> Result<(), Fail> {
     each(rt.alloc(), REFUSED, check_refused)
 }
 
-// A whole table in a row from cluster 5 on, but that a host cluster is left out before an entry.
+// A whole table of consecutive host clusters from cluster 5 on, except that it skips one before an entry.
 #[derive(Clone, Copy, Debug)]
 struct Row {
     cluster_bits: u32,
@@ -286,7 +287,7 @@ const ROWS: &[Row] = rows! { Row:
     { cluster_bits: 16, entries: 8192, gap: 8191 }, { cluster_bits: 21, entries: 262144, gap: 262143 },
 };
 
-// The host cluster of an entry.
+// Returns the host cluster of an entry.
 fn cluster_of(row: Row, index: u64) -> u64 {
     let gap = (index >= row.gap) as u64;
     index.saturating_add(5 + gap)
@@ -324,7 +325,7 @@ fn rows_of_clusters_join_up_to_a_gap(rt: HostRuntime) -> Result<(), Fail> {
     each(rt.alloc(), ROWS, check_row)
 }
 
-// The largest table, of which all entries are zeros but for the last.
+// Checks the largest table, whose entries are all zeros but the last.
 fn check_largest(alloc: Global, (last, found): (u64, Result<usize, Fault>)) -> Result<(), Fail> {
     let mut bytes = Vec::new(alloc);
     for _ in 0..262143 {

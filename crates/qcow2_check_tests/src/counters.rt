@@ -1,4 +1,4 @@
-//! What the counters of an image's own blocks are.
+//! The refcounts in an image's own refcount blocks.
 
 use crate::readers::counters_of;
 use crate::sample_image::sample_image;
@@ -20,7 +20,7 @@ const COUNTED: &[Counted<'static>] = rows! { Counted:
         clusters: &[0, 5, 6, 252, 253, 254, 255], counters: &[1, 1, 0, 2, 3, 4, 65535] },
     { name: "clusters without a block", changes: &[],
         clusters: &[256, 1 << 14, 1 << 47, u64::MAX], counters: &[0, 0, 0, 0] },
-    // the second block lies past the image's end, where all is 0, and the third is the first one again
+    // the second block lies past the image's end and reads as zeros; the third is the first one again
     { name: "one block after another",
         changes: &[(REFTABLE + 8, 1 << 20), (REFTABLE + 16, BLOCK), (BLOCK + 8, 9 << 32)],
         clusters: &[5, 261, 517, 5, 261, 773], counters: &[9, 0, 9, 9, 0, 0] },

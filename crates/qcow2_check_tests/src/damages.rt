@@ -1,5 +1,4 @@
-//! What readers find of images with damages: wrong clusters, wrong flags, and whether there are none. Which
-//! images they refuse.
+//! Readers of damaged images: findings, wrong flags, consistency, and the images that they refuse.
 
 use crate::layout::runs_of;
 use crate::readers::{findings_of, flags_of, is_image_consistent};

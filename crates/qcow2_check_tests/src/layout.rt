@@ -1,4 +1,4 @@
-//! Tests of what the clusters of an image are, in runs and as a picture.
+//! Tests of an image's layout, in runs and as a picture.
 
 mod calls;
 mod picture;

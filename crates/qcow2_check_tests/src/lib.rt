@@ -1,5 +1,5 @@
-//! Tests of what an image says of its own clusters: of what uses them, of counters, of findings, of wrong
-//! flags, of all of them together, and of what each cluster is.
+//! Tests of what an image says about its host clusters: references, refcounts, findings, wrong flags,
+//! consistency, layout, and repairs.
 #![tactic(auto)]
 
 #[cfg(test)]

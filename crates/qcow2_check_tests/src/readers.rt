@@ -1,4 +1,4 @@
-//! The calls that are tested, without their clauses.
+//! The tested calls, without their contracts.
 
 use qcow2_base::{Device, Fault, HostCluster, Storage};
 use qcow2_check::{Counters, Finding, Findings, FlagPlace, WrongFlag};
@@ -8,12 +8,12 @@ use qcow2_summary::is_consistent;
 use qcow2_testing::damages::{FoundCluster, FoundFlag, FoundPlace};
 use std::alloc::Global;
 
-// The header of an image.
+// Loads the header of an image.
 fn header_of<S: Storage>(alloc: Global, image: &mut S) -> Result<Header, Fault> {
     Header::load(alloc, image, false)
 }
 
-/// All findings of an image, in order, the first hundred of them at most.
+/// Returns the findings of an image in order, the first hundred at most.
 pub(crate) fn findings_of<S: Storage>(
     alloc: Global,
     image: &mut S,
@@ -49,8 +49,8 @@ fn cluster_of(finding: &Finding) -> FoundCluster {
     }
 }
 
-/// All wrong flags of an image, in order, the first hundred of them at most. Where a read is refused, the
-/// reader is called again.
+/// Returns the wrong flags of an image in order, the first hundred at most. After a failed read it calls the
+/// reader again.
 pub(crate) fn flags_of<S: Storage>(alloc: Global, image: &mut S) -> Result<Vec<FoundFlag>, Fault> {
     let header = header_of(alloc, image)?;
     let mut found = Vec::new(alloc);
@@ -89,7 +89,7 @@ fn flag_of(flag: &WrongFlag) -> FoundFlag {
     }
 }
 
-/// The counters of these clusters.
+/// Returns the refcounts of these clusters.
 pub(crate) fn counters_of<S: Storage>(
     alloc: Global,
     image: &mut S,

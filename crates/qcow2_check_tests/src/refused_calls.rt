@@ -1,4 +1,4 @@
-//! What a refused call of the storage leaves of a check, and that it is the last of a repair.
+//! Checks over a storage that fails one call, and repairs, which make no call after a failed one.
 
 use crate::readers::{findings_of, flags_of, repaired};
 use crate::sample_image::sample_image;
@@ -8,10 +8,10 @@ use qcow2_testing::{COPIED, Numbers, StorageCall, recorded, same, same_bytes};
 use std::alloc::{AllocError, Global};
 use std::test::Fail;
 
-// More calls of the storage than a check or a repair of the sample image makes.
+// More storage calls than a check or a repair of the sample image makes.
 const MOST_CALLS: u64 = 64;
 
-// A second L2 table and a second block, and entries with wrong flags whose clusters are of both blocks.
+// A second L2 table and a second block, and entries with wrong flags whose clusters both blocks count.
 const TWO_TABLES: Numbers<'static> = &[
     (L1_TABLE + 8, 3072),
     (3072 + 504, L2_TABLE),
@@ -42,7 +42,7 @@ fn a_reader_of_flags_goes_on_after_a_refused_read(rt: HostRuntime) -> Result<(),
     let alloc = rt.alloc();
     let all = flags_of(alloc, &mut sample_image(alloc, TWO_TABLES)?)?;
     let mut image = recorded(alloc, sample_image(alloc, TWO_TABLES)?);
-    // whether a reader was made before the refusal
+    // whether an earlier iteration made a reader
     let mut is_made = false;
     for refused in 0..MOST_CALLS {
         image.plan = Some(refused);
@@ -61,8 +61,8 @@ fn a_reader_of_flags_goes_on_after_a_refused_read(rt: HostRuntime) -> Result<(),
     Err(Fail::new("a reader of flags makes ever more calls"))
 }
 
-// Something for each step of a repair: an autoclear feature, two entries that name cluster 5 with false
-// flags, whose counter is too small, a leaked cluster, and late flags of the L2 table and of cluster 7.
+// Work for each step of a repair: an autoclear feature; two entries with false flags that name cluster 5,
+// whose refcount is too low; a leaked cluster; and late flags of the L2 table and of cluster 7.
 const TO_REPAIR: Numbers<'static> = &[
     (88, 1),
     (L1_TABLE, L2_TABLE),
@@ -77,8 +77,8 @@ macro_rules! written {
     };
 }
 
-// What a repair of it writes, and where it waits: the header with its end, then false flags, counters that
-// rise, those that fall, and late flags.
+// The writes and syncs of its repair: the header with its end, then cleared flags, raised refcounts, lowered
+// refcounts, and set flags.
 const REPAIRS: &[StorageCall] = &[
     written!(0, 112),
     StorageCall::Sync,
@@ -93,7 +93,7 @@ const REPAIRS: &[StorageCall] = &[
     StorageCall::Sync,
 ];
 
-// The calls that write or wait.
+// Returns the writes and syncs among these calls.
 fn writes_of(alloc: Global, calls: &[StorageCall]) -> Result<Vec<StorageCall>, AllocError> {
     let mut writes = Vec::new(alloc);
     for call in calls {

@@ -1,4 +1,4 @@
-//! What a repair leaves of images, what it refuses, and how often it loads a table.
+//! Repairs: their results, their refusals, and the number of times that they load a table.
 
 use crate::readers::{is_image_consistent, repaired};
 use qcow2_testing::damages::{

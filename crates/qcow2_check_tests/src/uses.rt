@@ -1,4 +1,4 @@
-//! What an image uses, and who refers to it.
+//! The references of an image to host clusters, and their owners.
 
 ghost use Rattle.std.specs.Prelude.{◌≡◌, ◌++◌};
 ghost use Rattle.std.proofs.Common.{arith};
@@ -13,7 +13,7 @@ use qcow2_testing::{Numbers, each, rows, same};
 use std::alloc::Global;
 use std::test::Fail;
 
-// A sink that keeps all that it takes.
+// A sink that collects every reference.
 #[derive(Drop)]
 struct Taken {
     uses: Vec<Use>,
@@ -32,7 +32,7 @@ impl UseSink for Taken {
     ghost takes_both = { λ first second a b c one other. Prim.grind (arith, one, other, append_assoc) };
 }
 
-// What uses clusters, how many from which one on, and who refers to them.
+// A reference: its kind, its first cluster, its number of clusters, and its owner.
 type Reference = (UseKind, u64, u64, u64);
 
 #[derive(Clone, Copy)]
@@ -46,7 +46,7 @@ const WALKED: &[Walked<'static>] = rows! { Walked:
     { name: "the sample image", changes: &[], uses: &[
         (UseKind::Header, 0, 1, 0), (UseKind::L1Table, 1, 1, 0), (UseKind::RefcountTable, 3, 1, 0),
         (UseKind::RefcountBlock, 4, 1, 0), (UseKind::L2Table, 2, 1, 0), (UseKind::Data, 5, 1, 3)] },
-    // both L1 entries name the table, which has 64 entries; the compressed data crosses a cluster's end
+    // both L1 entries name the table, which has 64 entries; the compressed data crosses a cluster boundary
     { name: "an L2 table with compressed data, twice",
         changes: &[(NEXT_TABLE, L2_TABLE), (NEXT_ENTRY, 1 << 62 | 1 << 61 | 2600)], uses: &[
         (UseKind::Header, 0, 1, 0), (UseKind::L1Table, 1, 1, 0), (UseKind::RefcountTable, 3, 1, 0),
@@ -55,7 +55,7 @@ const WALKED: &[Walked<'static>] = rows! { Walked:
         (UseKind::Data, 5, 1, 67), (UseKind::Compressed, 5, 2, 68)] },
 };
 
-// All that an image uses.
+// Returns all references of an image.
 fn uses_of(alloc: Global, image: &mut MemStorage) -> Result<Vec<Use>, Fault> {
     let header = Header::load(alloc, image, false)?;
     let l1_table = load_l1_table(alloc, image, &header)?;

@@ -1,4 +1,4 @@
-//! A system that lists the locks that a test says.
+//! A file system whose lists of locks a test chooses.
 
 use qcow2_testing::{TemporaryFile, temporary_file};
 use std::alloc::{Alloc, Allocator, Global};
@@ -9,19 +9,18 @@ use std::rt::Files;
 use std::test::Fail;
 use std::{fs, io};
 
-/// Opens files as the system does, but for the lists of locks: there each has a text of its own, or is
-/// missing.
+/// Opens files as the system does, except the lists of locks: each has a text of its own, or is missing.
 #[derive(Drop)]
 pub(super) struct Listing<'a> {
     rt: &'a HostRuntime,
-    // where a list lies while it is read
+    // the place of a list while it is read
     place: TemporaryFile<'a, HostRuntime>,
     own: Option<&'a str>,
     all: Cell<Option<&'a str>>,
 }
 
 impl<'a> Listing<'a> {
-    /// A system that lists these for each descriptor, and these of all programs.
+    /// Makes a system with the list `own` for each descriptor, and the list `all` of all locks.
     pub(super) fn new(
         rt: &'a HostRuntime,
         own: Option<&'a str>,
@@ -37,12 +36,12 @@ impl<'a> Listing<'a> {
         })
     }
 
-    /// Lists these of all programs from now on.
+    /// Replaces the list of all locks.
     pub(super) fn list(&self, all: Option<&'a str>) {
         self.all.set(all);
     }
 
-    // The file of a list, of this text.
+    // Opens a list with this text.
     fn open_list(&self, how: &OpenOptions, text: Option<&str>) -> io::Result<File> {
         let Some(text) = text else {
             return Err(ErrorKind::NotFound.into());

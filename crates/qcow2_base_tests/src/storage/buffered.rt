@@ -1,4 +1,4 @@
-//! Storages that are read in pages: which calls reach the storage below.
+//! Storages that read in pages, and the calls that reach the storage below.
 
 use super::{LIMIT, READS as SMALL_READS, check_bytes, memory, read, write};
 use qcow2_base::{Device, MemStorage, Storage, StorageFault};
@@ -9,18 +9,18 @@ use std::test::Fail;
 
 type Buffered = BufferedStorage<FailingStorage<MemStorage>>;
 
-// An image of 0xa5 whose calls are recorded, with a plan for the one that fails, below pages for clusters of
-// a size.
+// Returns an image of bytes 0xa5 that is read in pages for this cluster size. The storage below records its
+// calls, and fails the planned one.
 fn buffered(alloc: Global, cluster_size: usize, plan: Option<u64>) -> Result<Buffered, Fail> {
     let mut inner = FailingStorage::new(alloc, filled_image(alloc, 20000)?);
     inner.plan = plan;
     Ok(BufferedStorage::new(alloc, inner, cluster_size).map_err(|_| AllocError)?)
 }
 
-// Where a read begins, and how many bytes it has.
+// The offset and the length of a read.
 type Part = (u64, usize);
 
-// That these reads reached the storage below, and nothing else.
+// Checks that just these reads reached the storage below.
 fn check_reads(alloc: Global, storage: &Buffered, reads: &[Part]) -> Result<(), Fail> {
     let mut calls = Vec::new(alloc);
     for read in reads {
@@ -30,7 +30,7 @@ fn check_reads(alloc: Global, storage: &Buffered, reads: &[Part]) -> Result<(), 
     same(storage.inner().calls.as_slice(), calls.as_slice(), "calls")
 }
 
-// The size of a cluster, what is read, and what of that reaches the storage below.
+// A cluster size, reads, and the reads that reach the storage below.
 #[derive(Clone, Copy, Debug)]
 struct InPages {
     cluster_size: usize,
@@ -39,17 +39,17 @@ struct InPages {
 }
 
 const READS: &[InPages] = rows! { InPages:
-    // small clusters, which lie in one page
+    // small clusters in one page
     { cluster_size: 512, reads: &[(512, 512), (1024, 512), (4096, 8)], below: &[(0, 4096), (4096, 4096)] },
-    // pieces of a table, in clusters of 64 KiB and in larger ones
+    // parts of a table, in clusters of 64 KiB and in larger ones
     { cluster_size: 65536, reads: &[(65536, 4096), (69632, 4096), (73728, 8)], below: &[(65536, 65536)] },
     { cluster_size: 2097152, reads: &[(0, 4096), (4096, 4096)], below: &[(0, 65536)] },
-    // what reaches from one page into the next, or is longer than one
+    // a read that crosses pages, or is longer than one
     { cluster_size: 512, reads: &[(4090, 16), (4090, 6)], below: &[(4090, 16), (0, 4096)] },
     { cluster_size: 512, reads: &[(4096, 4097)], below: &[(4096, 4097)] },
-    // the last page that there can be
+    // the last possible page
     { cluster_size: 65536, reads: &[(LIMIT - 8, 8), (LIMIT - 4096, 4096)], below: &[(LIMIT - 65536, 65536)] },
-    // a fifth page takes the place of the one that was read least lately
+    // a fifth page replaces the least recently read one
     { cluster_size: 4096,
         reads: &[(0, 8), (4096, 8), (8192, 8), (12288, 8), (8, 8), (20480, 8), (16, 8), (4104, 8)],
         below: &[(0, 4096), (4096, 4096), (8192, 4096), (12288, 4096), (20480, 4096), (4096, 4096)] },

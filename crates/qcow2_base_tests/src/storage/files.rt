@@ -1,4 +1,4 @@
-//! Storages over real files, and over ones that fail.
+//! Storages over real files, and over failing ones.
 
 use super::{
     LIMIT, WRITES, Written, check_bytes, check_failed_read, check_failed_write, check_failures,
@@ -91,7 +91,7 @@ fn fails_at_the_end(rt: &HostRuntime, path: &str) -> Result<bool, Fail> {
     Ok(failures > 0)
 }
 
-// Some file systems hold a file of 2^56 bytes, with a hole in it, and others refuse the offset.
+// Some file systems hold a file of 2^56 bytes with a hole in it, others refuse the offset.
 #[test]
 fn a_write_at_the_last_offset_stands_or_is_the_storage_fault(rt: HostRuntime) -> Result<(), Fail> {
     let file = temporary_file(&rt, "last-offset", &[1, 2, 3])?;
@@ -100,8 +100,8 @@ fn a_write_at_the_last_offset_stands_or_is_the_storage_fault(rt: HostRuntime) ->
     same(len, if failed { 3 } else { LIMIT }, failed)
 }
 
-// How many calls of a file pass before one fails, if one is to, how many bytes it reads and writes at a time,
-// and where it ends for reads.
+// The number of calls of a file before one fails, if any; the number of bytes that it reads and writes at a
+// time; and its end for reads.
 type Plan = (Option<u64>, usize, u64);
 
 fn faulty(
@@ -131,13 +131,13 @@ fn short_reads_and_writes_are_gone_on_with(rt: HostRuntime) -> Result<(), Fail> 
     Ok(())
 }
 
-// A read of four bytes of a file that gives two at a time.
+// A read of four bytes from a file that returns two at a time.
 struct Asked {
-    // Where it begins, and what it reads.
+    // The offset of the read, and the bytes there.
     offset: u64,
     bytes: [u8; 4],
-    // Which calls of the file make it fail. It asks for a place and for bytes, twice, and for the length too
-    // where the second time gave none. The file need not be set to a place past its end.
+    // The calls of the file that make the read fail. It seeks and reads twice, and asks for the length if the
+    // second read returned no bytes. A seek to the end may fail.
     needs: &'static [u64],
 }
 
@@ -157,7 +157,7 @@ fn check_failing_reads(rt: &HostRuntime, path: &str, row: &Asked) -> Result<(), 
     Ok(())
 }
 
-// A file is asked for its metadata when it is opened.
+// Opening a file asks for its metadata.
 #[test]
 fn an_open_or_a_read_fails_where_one_call_of_the_file_does(rt: HostRuntime) -> Result<(), Fail> {
     let file = temporary_file(&rt, "failed-read", &[1, 2, 3, 4, 5])?;
@@ -169,8 +169,8 @@ fn an_open_or_a_read_fails_where_one_call_of_the_file_does(rt: HostRuntime) -> R
     Ok(())
 }
 
-// Fails unless a write fails by this call of the file and leaves the bytes around it, and the next one
-// makes good what it left, in part or not at all.
+// Fails unless the write fails at this call of the file and leaves the bytes around its range, and a second
+// write completes it, whatever the first one wrote.
 fn check_failing_write(rt: &HostRuntime, path: &str, passes: u64) -> Result<(), Fail> {
     fs::write(rt, path, &[1, 2, 3, 4, 5, 6])?;
     let mut storage = faulty(rt, path, (Some(passes), 2, u64::MAX))?;
@@ -180,14 +180,13 @@ fn check_failing_write(rt: &HostRuntime, path: &str, passes: u64) -> Result<(), 
     file_holds(rt, path, &[1, 9, 9, 9, 9, 6], "again")
 }
 
-// How many bytes a file has, and the first and the last.
+// Returns the length of a file in bytes, its first byte, and its last.
 fn ends_of(rt: &HostRuntime, path: &str) -> Result<(usize, Option<u8>, Option<u8>), Fail> {
     let bytes = fs::read(rt, path)?;
     Ok((bytes.len(), bytes.first().copied(), bytes.last().copied()))
 }
 
-// A write of four bytes, two at a time, asks a file six times: for a place, to take bytes and to pass them
-// on, twice.
+// A write of four bytes, two at a time, makes six calls of a file: a seek, a write and a flush, twice.
 #[test]
 fn a_write_fails_where_one_call_of_the_file_does(rt: HostRuntime) -> Result<(), Fail> {
     let file = temporary_file(&rt, "failed-write", &[])?;
@@ -207,7 +206,7 @@ fn a_file_that_ends_before_its_length_is_no_zeros(rt: HostRuntime) -> Result<(),
     Ok(())
 }
 
-// A file that is opened is asked for its metadata, and then, by a sync, to pass its bytes on to the device.
+// Opening a file asks for its metadata; then a sync asks it to pass its bytes on to the device.
 #[test]
 fn a_sync_fails_where_that_of_the_file_does(rt: HostRuntime) -> Result<(), Fail> {
     let file = temporary_file(&rt, "sync", &[1, 2, 3])?;

@@ -8,7 +8,7 @@ use qcow2_testing::{KnownFile, KnownFiles, same};
 use std::alloc::Global;
 use std::test::Fail;
 
-// How many bytes a file reads or writes at a time.
+// The number of bytes that a file reads or writes at a time.
 const STEPS: &[usize] = &[0, 1, 2, 3, 512, usize::MAX];
 
 fn storage(alloc: Global, bytes: &[u8], step: usize) -> Result<FileStorage<KnownFile>, Fail> {

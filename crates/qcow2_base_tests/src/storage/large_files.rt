@@ -1,4 +1,4 @@
-//! Reads and writes of more bytes than any buffer on their way may have.
+//! Reads and writes that are longer than any buffer on their way.
 
 use super::files::open;
 use super::{MIB, check_bytes, write};
@@ -6,8 +6,8 @@ use qcow2_testing::{file_holds, part_of, temporary_file};
 use std::alloc::{AllocError, Global};
 use std::test::Fail;
 
-// The bytes of a file, other ones from `start` to `end` than before and after. They repeat after 113
-// bytes, which divides no length that a buffer may have.
+// Returns the bytes of a file: a pattern, inverted from `start` to `end`, that repeats after 113 bytes, which
+// divides no buffer's length.
 fn image(alloc: Global, len: usize, start: usize, end: usize) -> Result<Vec<u8>, AllocError> {
     let mut bytes = Vec::new(alloc);
     for at in 0..len {
@@ -18,7 +18,7 @@ fn image(alloc: Global, len: usize, start: usize, end: usize) -> Result<Vec<u8>,
     Ok(bytes)
 }
 
-// Where a read or a write begins and ends.
+// The begin and the end of a read or a write.
 type Range = (usize, usize);
 
 const WRITES: &[Range] = &[
@@ -29,7 +29,7 @@ const WRITES: &[Range] = &[
     (65536, 65536 + 2 * MIB + 1),
 ];
 
-// Writes a range of the file, and fails unless it has the other bytes then and all else stays.
+// Writes a range of the file, and fails unless that range has the new bytes and all others stay.
 fn check_written(rt: &HostRuntime, path: &str, row: Range) -> Result<(), Fail> {
     let (start, end) = row;
     let new = image(rt.alloc(), 3 * MIB, start, end)?;
@@ -60,7 +60,7 @@ fn check_range(rt: &HostRuntime, path: &str, bytes: &[u8], row: Range) -> Result
     check_bytes(rt.alloc(), &mut open(rt, path, true)?, row.0 as u64, bytes)
 }
 
-// A file of 5 MiB reads as with zeros after it.
+// Checks that a file of 5 MiB reads as if zeros followed it.
 fn check_ranges(rt: &HostRuntime, path: &str) -> Result<(), Fail> {
     let mut padded = image(rt.alloc(), 5 * MIB, 0, 0)?;
     padded.resize(6 * MIB, 0)?;

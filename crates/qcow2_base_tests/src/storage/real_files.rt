@@ -1,4 +1,4 @@
-//! That the operating system's files behave as what is proved of files assumes, as far as a test can show it.
+//! Tests that the operating system's files behave as the proofs assume, as far as tests can show.
 
 use super::files::open;
 use super::{check_bytes, check_failed_read, check_failed_write, check_failures, write};
@@ -9,7 +9,7 @@ use std::fs::OpenOptions;
 use std::io::Write;
 use std::test::Fail;
 
-// A file system that has no room for such a length refuses the write, which is counted then.
+// A file system without room for such a length refuses the write, which counts as a failure.
 #[test]
 fn a_hole_reads_as_zeros_and_what_lies_past_it_as_written(rt: HostRuntime) -> Result<(), Fail> {
     let far: u64 = 3 << 40;
@@ -42,7 +42,7 @@ fn a_file_that_grows_meanwhile_reads_as_it_is_then(rt: HostRuntime) -> Result<()
     check_failures(rt.alloc(), &storage, 0)
 }
 
-// No byte of a file that was opened so is replaced. So none is opened so.
+// A file opened to append replaces no byte, so `FileStorage::open` opens none that way.
 #[test]
 fn a_file_opened_to_append_takes_writes_at_its_end_alone(rt: HostRuntime) -> Result<(), Fail> {
     let file = temporary_file(&rt, "append", &[1, 2, 3])?;

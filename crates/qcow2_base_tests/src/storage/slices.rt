@@ -1,4 +1,4 @@
-//! Storages over bytes that somebody else has.
+//! Storages over bytes of the caller's.
 
 use super::{LIMIT, check_bytes, check_failed_write, check_failures, check_read, read};
 use qcow2_base::{SliceStorage, Storage};
@@ -11,7 +11,7 @@ fn a_slice_reads_as_the_image_of_its_bytes(rt: HostRuntime) -> Result<(), Fail> 
     check_read(rt.alloc(), &mut SliceStorage::new(&[1, 2, 3, 4, 5], 0))
 }
 
-// Where the bytes 1 to 4 begin, an offset, and the six bytes that are read there.
+// The offset of the bytes 1 to 4, the offset of a read, and the six bytes there.
 const PLACED: &[(u64, u64, [u8; 6])] = rows! {
     (3, 0, [0, 0, 0, 1, 2, 3]), (3, 3, [1, 2, 3, 4, 0, 0]), (3, 5, [3, 4, 0, 0, 0, 0]),
     (3, 7, [0; 6]), (1, 0, [0, 1, 2, 3, 4, 0]), (6, 0, [0; 6]), (5, 0, [0, 0, 0, 0, 0, 1]),
@@ -31,7 +31,7 @@ fn bytes_before_and_after_a_slice_are_zero(rt: HostRuntime) -> Result<(), Fail> 
     each(rt.alloc(), PLACED, check_placed)
 }
 
-// A slice as long as the greatest cluster, read whole, and past both of its ends.
+// A slice as long as the largest cluster, read whole, and one byte past both ends.
 #[test]
 fn a_large_slice_is_read_whole(rt: HostRuntime) -> Result<(), Fail> {
     let alloc = rt.alloc();

@@ -1,12 +1,12 @@
-//! The calls that are tested, without their clauses.
+//! The tested calls, without their contracts.
 
 use qcow2_base::{Fault, Storage};
 use qcow2_layout::{Layout, Run, Shape, picture_of};
 use qcow2_metadata::Header;
 use std::alloc::Global;
 
-/// All runs of an image, in order, the first hundred of them at most. Where a read is refused, the reader is
-/// called again.
+/// Returns the runs of an image in order, the first hundred at most. After a failed read it calls the reader
+/// again.
 pub(crate) fn runs_of<S: Storage>(alloc: Global, image: &mut S) -> Result<Vec<Run>, Fault> {
     let header = Header::load(alloc, image, false)?;
     let mut found = Vec::new(alloc);
@@ -32,7 +32,7 @@ fn read_runs<S: Storage>(
     Ok(())
 }
 
-/// How many clusters a square of the picture of an image stands for, and its shapes.
+/// Returns the scale of an image's picture, in clusters per square, and its shapes.
 pub(super) fn shapes_of_image<S: Storage>(
     alloc: Global,
     image: &mut S,

@@ -1,4 +1,4 @@
-//! The squares of a picture, and which images have none.
+//! The squares of a picture, and images without one.
 
 use super::calls::shapes_of_image;
 use crate::sample_image::sample_image;
@@ -13,12 +13,12 @@ use std::test::Fail;
 struct Painted<'a> {
     name: &'a str,
     changes: Numbers<'a>,
-    // The shapes after those of the first five clusters, which are header, L1 table, L2 table, refcount table
-    // and block.
+    // The shapes that follow those of the first five clusters: header, L1 table, L2 table, refcount table and
+    // block.
     shapes: &'a [Shape],
 }
 
-// Shapes, each by its first square, how many it has, and their colour.
+// Makes shapes, each from its first square, its number of squares and its colour.
 macro_rules! shapes {
     ($($first:literal + $count:literal $shade:literal),* $(,)?) => {
         &[$(Shape { first: $first, count: $count, shade: $shade }),*]
@@ -64,7 +64,7 @@ struct Scaled<'a> {
     name: &'a str,
     changes: Numbers<'a>,
     scale: u64,
-    // How many shapes there are, the first of them, and the last.
+    // The number of shapes, the first of them, and the last.
     count: usize,
     first: &'a [Shape],
     last: Shape,
@@ -80,7 +80,7 @@ const LARGE: &[Scaled<'static>] = rows! { Scaled:
     { name: "8192 clusters", changes: &[(NEXT_ENTRY, 8191 << 9)], scale: 2, count: 67,
         first: shapes! { 0 + 1 10, 1 + 2 11, 3 + 61 0 },
         last: Shape { first: 4095, count: 1, shade: 1 } },
-    // cluster 11 is leaked, and in the second square with eight clusters
+    // cluster 11 is leaked, and lies in the second square of eight clusters
     { name: "32768 clusters, one of them leaked", changes: &[(NEXT_ENTRY, 32767 << 9), (BLOCK + 16, 1)],
         scale: 8, count: 67, first: shapes! { 0 + 1 11, 1 + 1 12, 2 + 62 0 },
         last: Shape { first: 4095, count: 1, shade: 1 } },

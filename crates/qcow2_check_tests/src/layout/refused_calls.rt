@@ -1,4 +1,4 @@
-//! What a refused call of the storage leaves of a layout.
+//! Layouts over a storage that fails one call.
 
 use super::calls::{runs_of, shapes_of_image};
 use crate::sample_image::sample_image;
@@ -7,7 +7,7 @@ use qcow2_testing::sample_image::{L2_TABLE, REFTABLE};
 use qcow2_testing::{Numbers, recorded, same, same_bytes};
 use std::test::Fail;
 
-// More calls of the storage than a layout of the image makes.
+// More storage calls than a layout of the image makes.
 const MOST_CALLS: u64 = 64;
 
 // A second block, with a leaked cluster, and data far away.
@@ -23,7 +23,7 @@ fn a_reader_of_runs_goes_on_after_a_refused_read(rt: HostRuntime) -> Result<(), 
     let whole = sample_image(alloc, TWO_BLOCKS)?;
     let all = runs_of(alloc, &mut sample_image(alloc, TWO_BLOCKS)?)?;
     let mut image = recorded(alloc, sample_image(alloc, TWO_BLOCKS)?);
-    // whether a reader was made before the refusal
+    // whether an earlier iteration made a reader
     let mut is_made = false;
     for refused in 0..MOST_CALLS {
         image.plan = Some(refused);

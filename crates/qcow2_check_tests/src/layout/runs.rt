@@ -1,4 +1,4 @@
-//! What the clusters of an image are.
+//! The runs of a layout.
 
 use super::calls::runs_of;
 use crate::sample_image::sample_image;
@@ -13,18 +13,18 @@ use std::test::Fail;
 struct Laid<'a> {
     name: &'a str,
     changes: Numbers<'a>,
-    // The runs after those of the five clusters of tables.
+    // The runs that follow the five clusters of header and tables.
     runs: &'a [Run],
 }
 
-// Runs, each by its first cluster, how many it has, and their part.
+// Makes runs, each from its first cluster, its number of clusters and its part.
 macro_rules! runs {
     ($($first:literal + $count:literal $part:expr),* $(,)?) => {
         &[$(Run { first: HostCluster($first), count: $count, part: $part }),*]
     };
 }
 
-// The offset of guest cluster 3, and of the cluster of the next entry.
+// Data of guest cluster 3, and of the guest cluster of the next entry.
 const FIRST: Part = Part::Data(GuestOffset(1536));
 
 const NEXT: Part = Part::Data(GuestOffset(2048));
@@ -76,7 +76,7 @@ const UNUSED: &[Laid<'static>] = rows! { Laid:
         runs: runs! { 5 + 1 FIRST, 6 + 2 Part::Free, 8 + 1 NEXT } },
     { name: "data without a counter", changes: &[(BLOCK + 8, 0x0001_0000_0000_0000)],
         runs: runs! { 5 + 1 FIRST } },
-    // the second block is for clusters 256 to 511, and the third entry names none
+    // the second block covers clusters 256 to 511; the third entry of the refcount table names none
     { name: "free clusters with a block and without",
         changes: &[(REFTABLE + 8, 3072), (3072 + 504, 0), (NEXT_ENTRY, 1000 << 9)],
         runs: runs! { 5 + 1 FIRST, 6 + 1 Part::RefcountBlock, 7 + 993 Part::Free, 1000 + 1 NEXT } },
@@ -87,7 +87,7 @@ const UNUSED: &[Laid<'static>] = rows! { Laid:
 };
 
 const FAR: &[Laid<'static>] = rows! { Laid:
-    // a window has 4096 clusters one after another, so that these are of two
+    // a window has 4096 consecutive clusters, so this data spans two windows
     { name: "data in a row over the end of a window",
         changes: &[(NEXT_ENTRY, 4095 << 9), (NEXT_ENTRY + 8, 4096 << 9), (NEXT_ENTRY + 16, 4097 << 9)],
         runs: runs! { 5 + 1 FIRST, 6 + 4089 Part::Free, 4095 + 3 NEXT } },
@@ -134,7 +134,7 @@ const TABLES_FIRST: &[Laid<'static>] = rows! { Laid:
         (NEXT_ENTRY + 16, BLOCK), (L2_TABLE, L2_TABLE), (L2_TABLE + 8, 1 << 62 | 100)],
         runs: runs! { 0 + 1 Part::Header, 1 + 1 Part::L1Table, 2 + 1 Part::L2Table,
             3 + 1 Part::RefcountTable, 4 + 1 Part::RefcountBlock, 5 + 1 FIRST } },
-    // the L1 entry is the counters of clusters 0 to 3 then, of which the last isn't 0
+    // the refcounts of clusters 0 to 3 are the bytes of the L1 entry, and the last of them isn't 0
     { name: "an L2 table in the refcount table, and a block in the L1 table",
         changes: &[(L1_TABLE, REFTABLE), (REFTABLE, 512)],
         runs: runs! { 0 + 1 Part::Header, 1 + 1 Part::L1Table, 2 + 1 Part::Free,
@@ -142,7 +142,7 @@ const TABLES_FIRST: &[Laid<'static>] = rows! { Laid:
     { name: "no block", changes: &[(REFTABLE, 0)],
         runs: runs! { 0 + 1 Part::Header, 1 + 1 Part::L1Table, 2 + 1 Part::L2Table,
             3 + 1 Part::RefcountTable, 4 + 1 Part::Free, 5 + 1 FIRST } },
-    // the L2 table lies in cluster 6 then
+    // the L2 table lies in cluster 6
     { name: "an L1 table of two clusters",
         changes: &[(32, 65), (L1_TABLE, 3072), (L2_TABLE + 24, 0), (3072 + 24, 2560)],
         runs: runs! { 0 + 1 Part::Header, 1 + 2 Part::L1Table, 3 + 1 Part::RefcountTable,
