@@ -1,4 +1,4 @@
-//! Tests of headers, their features, and the text that they are read from and written as.
+//! Tests of headers, their features, and their bytes as loaded and written.
 
 mod features;
 mod fixtures;

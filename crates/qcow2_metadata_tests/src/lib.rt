@@ -1,4 +1,4 @@
-//! Tests of headers, and of entries, tables and refcount blocks.
+//! Tests of headers, entries, tables and refcount blocks.
 #![tactic(auto)]
 
 #[cfg(test)]

@@ -1,4 +1,4 @@
-//! Tests of entries, tables and refcount blocks, and what they are made with.
+//! Tests of entries, tables and refcount blocks, and their fixtures.
 
 mod block_numbers;
 mod blocks;

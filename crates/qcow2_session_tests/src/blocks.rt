@@ -1,4 +1,4 @@
-//! Refcount blocks to step and to settle, and comparisons of what is left of them.
+//! Refcount blocks for steps and settling, and comparisons of the results.
 
 use qcow2_base::{Fault, HostCluster, MemStorage};
 use qcow2_calls::{header_of, load_block};
@@ -10,15 +10,15 @@ use std::alloc::{AllocError, Global};
 use std::fmt::Debug;
 use std::test::Fail;
 
-/// Counters of a block: the index of the first of some, how many there are, and the number of each. All
+/// Runs of equal refcounts in a block: the index of the first, the length of the run, and the refcount. All
 /// others are 0.
 pub(crate) type Counters<'a> = &'a [(usize, usize, u64)];
 
 // The cluster of each block.
 const CLUSTER: HostCluster = HostCluster(0);
 
-/// A block that begins with these bytes, of an image with these cluster bits and this refcount order, whose
-/// guest data may be external. These counters are counted up then.
+/// Returns a block that begins with these bytes and then has these refcounts counted up, of an image with
+/// these cluster bits, this refcount order, and maybe an external data file.
 pub(crate) fn block_of(
     alloc: Global,
     image: (u32, u32, bool),
@@ -41,7 +41,7 @@ fn loaded(
     load_block(alloc, &mut image, &header, CLUSTER)
 }
 
-// Sets or clears the flag.
+// Sets or clears the modified flag.
 fn flag(block: &mut RefBlock, modified: bool) {
     if modified {
         block.set_modified();
@@ -58,7 +58,7 @@ fn count_up(block: &mut RefBlock, counters: Counters<'_>) -> Result<(), Fault> {
     Ok(())
 }
 
-// Steps of that many counters up to a number.
+// Returns the steps that raise a run of refcounts by a number.
 fn steps_up(
     alloc: Global,
     (first, count, number): (usize, usize, u64),
@@ -71,7 +71,7 @@ fn steps_up(
     Ok(steps)
 }
 
-/// Fails unless the block has these counters, its cluster and this flag.
+/// Fails unless the block has these refcounts, its cluster and this modified flag.
 pub(crate) fn check_counters<R: Debug + Copy + Drop>(
     block: &RefBlock,
     counters: Counters<'_>,
@@ -85,7 +85,7 @@ pub(crate) fn check_counters<R: Debug + Copy + Drop>(
     same(found, (Some(CLUSTER), modified), row)
 }
 
-// The number of a counter.
+// Returns the expected refcount at an index.
 fn number_at(counters: Counters<'_>, index: usize) -> u64 {
     for (first, count, number) in counters {
         if index >= *first && index - *first < *count {
@@ -95,7 +95,7 @@ fn number_at(counters: Counters<'_>, index: usize) -> u64 {
     0
 }
 
-/// Fails unless steps returned this: what came of each, or a fault. Returns whether one was done.
+/// Fails unless steps returned these replies, or this fault. Returns whether any step was done.
 pub(crate) fn check_replies<R: Debug + Drop>(
     answer: Result<Vec<StepReply>, Fault>,
     expected: Result<&[StepReply], Fault>,

@@ -19,7 +19,7 @@ use qcow2_testing::{FailingStorage, each, rows, same, same_bytes};
 use std::alloc::Global;
 use std::test::Fail;
 
-// The number of an L2 entry, and its line: none where the entry is left to the backing file.
+// An L2 entry, and its line, which is empty if the entry maps to the backing file.
 type Case = (u64, &'static str);
 
 const NINE_BITS: &[Case] = rows! {
@@ -64,8 +64,8 @@ const UNALIGNED: Result<(), Fault> = Err(Fault::EntryUnaligned);
 
 const PAST: Result<(), Fault> = Err(Fault::TablePlace);
 
-// A cluster that is listed, of an image of at most `len` bytes that begins with a table: from the entry at
-// `first` on it has these entries, with their lines. The fault.
+// A listed cluster of an image that begins with a table: the table's entries from `first` on, with their
+// lines; the image's length in bytes, at most; and the fault.
 #[derive(Clone, Copy)]
 struct Row {
     name: &'static str,
@@ -94,13 +94,13 @@ const ROWS: &[Row] = rows! {
     // the last entry, and one past it
     Row { name: "the last entry, and one past it", cluster_bits: 21, first: 262_143, cases: LAST_ENTRY,
         ..ROW },
-    // images that end inside their table, which goes on with zeros
+    // images that end inside their table, which continues with zeros
     Row { name: "an image of 6 bytes", cases: &[(0x8000_0000_0000_0a00, "")], len: 6, ..ROW },
     Row { name: "an image of 13 bytes", cases: CUT_OFF, len: 13, ..ROW },
-    // the greatest cluster of a table is the one that ends at 2^56
+    // the last possible cluster of a table ends at 2^56
     Row { name: "the last cluster", cluster: (1 << 47) - 1, ..ROW },
     Row { name: "the last cluster of 2 MiB", cluster_bits: 21, cluster: (1 << 35) - 1, ..ROW },
-    // the first bad entry is the fault, and no line is printed
+    // the first bad entry decides the fault, and no line is printed
     Row { name: "a reserved bit", cases: &[(GOOD, ""), (2, ""), (GOOD, "")], expected: RESERVED, ..ROW },
     Row { name: "a compressed entry with the copied flag", cases: &[(GOOD, ""), (0xc000_0000_0000_0000, "")],
         expected: RESERVED, ..ROW },
@@ -123,7 +123,7 @@ fn a_table_is_listed_as_far_as_the_image_goes_or_refused(rt: HostRuntime) -> Res
     each(rt.alloc(), ROWS, check_list)
 }
 
-// Lists the table of a row. One that would end past the greatest end is refused before any read.
+// Lists the table of a row. One past the largest end offset is refused before any read.
 fn check_list(alloc: Global, row: Row) -> Result<(), Fail> {
     let (image, lines) = table_and_lines(alloc, row.first, row.cases, row.len)?;
     let mut image = FailingStorage::new(alloc, image);
@@ -135,7 +135,7 @@ fn check_list(alloc: Global, row: Row) -> Result<(), Fail> {
     same_bytes(out.bytes(), lines.as_bytes(), row.name)
 }
 
-// The first `len` bytes of an image that begins with a table, and all its lines.
+// Returns the first `len` bytes of an image that begins with a table, and all lines of the table.
 fn table_and_lines(
     alloc: Global,
     first: usize,

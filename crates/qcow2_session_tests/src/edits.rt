@@ -1,4 +1,4 @@
-//! Lists of edits of an L2 table: what all of them leave together, and which lists are refused.
+//! Lists of edits of an L2 table: their joint effect, and refused lists.
 
 use crate::tables::{
     DATA_5, Entries, GONE, KEEP, PAST, References, TO_0, TO_1, TO_2, TO_5, TO_6, ZERO,
@@ -12,8 +12,8 @@ use qcow2_testing::{COPIED, each, rows, same};
 use std::alloc::{AllocError, Global};
 use std::test::Fail;
 
-// A list of edits of a table, what they do to references or the position of the first that is refused, and
-// the entries then.
+// A list of edits of a table, their effect on references or the position of the first refused edit, and the
+// entries afterwards.
 #[derive(Clone, Copy)]
 struct Row<'a> {
     name: &'a str,
@@ -58,7 +58,7 @@ const ROWS: &[Row<'static>] = rows! {
 };
 
 const OF_COMPRESSED: &[Row<'static>] = rows! {
-    // compressed data in its own cluster, and in three clusters, which zeros can't keep
+    // compressed data within the mapped cluster, and in three clusters, which zeros can't keep
     Row { name: "its own", cluster_bits: 16, before: (3, &[0x4040_0000_0001_0010]), edits: &[TO_1],
         after: (3, &[COPIED + 0x1_0000]), ..ROW },
     Row { name: "the second of three", cluster_bits: 10, before: COMPRESSED_1_TO_3, edits: &[TO_2],
@@ -66,7 +66,8 @@ const OF_COMPRESSED: &[Row<'static>] = rows! {
     Row { name: "three that zeros can't keep", cluster_bits: 10, before: COMPRESSED_1_TO_3,
         edits: &[KEEP, TO_2, TO_1], expected: Ok(outcome!([2, 1], [(1, 3), (2, 1)])),
         after: (3, &[COPIED + 0x400]), ..ROW },
-    // data from the last byte of cluster 5 on, that ends in the next cluster and in the one after it
+    // compressed data from the last byte of cluster 5 on, which ends in the next cluster, and in the one
+    // after it
     Row { name: "two and three clusters of 2 MiB", cluster_bits: 21, external: true,
         before: (3, &[0x4002_0000_00bf_ffff, 0x6002_0000_00bf_ffff]), edits: &[ZERO, map!(4, 5)],
         expected: Ok(outcome!([5], [(5, 2), (5, 3)])), after: (3, &[1, COPIED + 0xa0_0000]), ..ROW },
@@ -78,7 +79,7 @@ const OF_COMPRESSED: &[Row<'static>] = rows! {
 };
 
 const AT_ENDS: &[Row<'static>] = rows! {
-    // the last index and the greatest cluster
+    // the last index and the largest cluster
     Row { name: "the last entry of a table of 512 bytes", before: CLEARED,
         edits: &[map!(63, 0x7fff_ffff_ffff)], expected: Ok(outcome!([0x7fff_ffff_ffff], [])),
         after: (63, &[0x80ff_ffff_ffff_fe00]), ..ROW },
@@ -87,7 +88,7 @@ const AT_ENDS: &[Row<'static>] = rows! {
         edits: &[Edit::Discard { index: 262_143 }, map!(262_143, 0x7_ffff_ffff)],
         expected: Ok(outcome!([0x7_ffff_ffff], [(0x7_ffff_ffff, 1)])),
         after: (262_143, &[0x80ff_ffff_ffe0_0000]), ..ROW },
-    // refused: indices past the end, cluster 0, and clusters past the greatest of 512 bytes and of 2 MiB
+    // refused: indices past the end, cluster 0, and clusters past the largest of 512 bytes and of 2 MiB
     Row { name: "past the end", edits: &[GONE, PAST], expected: Err(1), ..ROW },
     Row { name: "the greatest index", edits: &[ZERO, Edit::Discard { index: usize::MAX }], expected: Err(1),
         ..ROW },
@@ -108,7 +109,7 @@ const MIXED: &[Edit] = rows! {
     Edit::Discard { index: 4 }, map!(5, 4), map!(5, 9), Edit::Discard { index: 0 }, map!(1, 2),
 };
 
-// Makes the edits of a row, of a table with each flag.
+// Makes the edits of a row in a table without and with the modified flag.
 fn check_both(alloc: Global, row: Row<'_>) -> Result<(), Fail> {
     check_edits(alloc, row, false)?;
     check_edits(alloc, row, true)
@@ -129,7 +130,7 @@ fn edits_at_the_ends_are_made_and_past_them_change_nothing(rt: HostRuntime) -> R
     each(rt.alloc(), AT_ENDS, check_both)
 }
 
-// Makes the edits of a row, of a table with this flag.
+// Makes the edits of a row in a table with this modified flag.
 fn check_edits(alloc: Global, row: Row<'_>, modified: bool) -> Result<(), Fail> {
     let image = (row.cluster_bits, row.external);
     let mut table = table_with(alloc, image, row.before, modified)?;
@@ -141,8 +142,8 @@ fn check_edits(alloc: Global, row: Row<'_>, modified: bool) -> Result<(), Fail> 
     check_table(&table, row.after, modified || is_edited, row.name)
 }
 
-// Ten thousand edits of a table of 8192 entries: a map of each entry and a discard of it after that. Which
-// clusters they give a reference, and which lose it.
+// Returns ten thousand edits of a table of 8192 entries, a map and then a discard for each of 5000 entries,
+// and the clusters that gain and lose a reference.
 fn many_edits(alloc: Global) -> Result<(Vec<Edit>, Outcome), AllocError> {
     let mut edits = Vec::new(alloc);
     let mut gained = Vec::new(alloc);

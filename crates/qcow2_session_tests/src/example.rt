@@ -13,8 +13,8 @@ const IN_CLUSTER_3: GuestOffset = GuestOffset(0x6ff);
 
 const IN_CLUSTER_4: GuestOffset = GuestOffset(0x800);
 
-// What differs between the images: the entry of guest cluster 3, where the first refcount block lies, and
-// how many references its counter for host cluster 5 has.
+// The differences between the images: the entry of guest cluster 3, the offset of the first refcount block,
+// and the refcount of host cluster 5.
 struct Image {
     l2_entry: u64,
     block_offset: u64,
@@ -48,8 +48,8 @@ const WITHOUT_A_BLOCK: Image = Image {
     counter_5: 1,
 };
 
-// An image of six clusters of 512 bytes, and a disk of 64. Cluster 0 has the header, 1 the L1 table, 2 the L2
-// table, 3 the refcount table, 4 the refcount block, with 16-bit counters, and 5 the data.
+// Returns an image of six clusters of 512 bytes with a disk of 64. Cluster 0 has the header, 1 the L1 table,
+// 2 the L2 table, 3 the refcount table, 4 the refcount block, with refcounts of 16 bits, and 5 the data.
 fn image_of(alloc: Global, image: &Image) -> Result<MemStorage, Fault> {
     let numbers = [
         (0, 0x5146_49fb_0000_0003), // magic, version 3
@@ -69,7 +69,8 @@ fn image_of(alloc: Global, image: &Image) -> Result<MemStorage, Fault> {
     image_with(alloc, 6 << 9, &numbers)
 }
 
-// What a discard returns in a file with an image. Fails unless the file is the other image afterwards.
+// Returns the result of a discard in a file with an image. Fails unless the file is the other image
+// afterwards.
 fn check_discard(
     rt: &HostRuntime,
     name: &str,
@@ -116,7 +117,7 @@ fn an_offset_without_data_changes_nothing(rt: HostRuntime) -> Result<(), Fail> {
     same(&found.is_none(), &true, "nothing is discarded")
 }
 
-// Fails unless a discard in cluster 3 is refused by a fault and the file stays.
+// Fails unless a discard in cluster 3 is refused by this fault and leaves the file.
 fn check_refusal(rt: &HostRuntime, name: &str, image: &Image, expected: Fault) -> Result<(), Fail> {
     match check_discard(rt, name, IN_CLUSTER_3, (image, image))? {
         Ok(_) => Err(Fail::new("it was discarded")),

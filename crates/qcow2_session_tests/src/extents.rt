@@ -1,5 +1,5 @@
-//! What disks read as, as extents: kinds of content beside each other, at the borders of clusters, of tables
-//! and of the disk, and by which fault a damaged table ends them.
+//! Extents of disks: adjacent kinds of content, borders of clusters, of tables and of the disk, and the
+//! faults of damaged tables.
 
 use Content::{Absent, Compressed, Zeros};
 use qcow2_base::{Fault, GuestOffset, HostOffset, Storage};
@@ -12,10 +12,10 @@ use std::alloc::Global;
 use std::fmt::Debug;
 use std::test::Fail;
 
-// The length of an extent, and what it reads as.
+// The length of an extent in bytes, and its content.
 type Part = (u64, Content);
 
-// An extent of data that begins at an offset, and one of zeros that clusters are kept for.
+// Make an extent of data from a host offset on, and one of zeros that keep host clusters.
 macro_rules! data {
     ($length:expr, $offset:expr) => {
         ($length, Content::Data(HostOffset($offset)))
@@ -28,7 +28,7 @@ macro_rules! allocated {
     };
 }
 
-// Changes of the sample image, the extents that are reported then, and the fault that ends them.
+// Changes of the sample image, its extents, and the fault that ends them.
 #[derive(Clone, Copy)]
 struct Row {
     name: &'static str,
@@ -53,7 +53,7 @@ const ROWS: &[Row] = rows! {
     Row { name: "to inside the data", changes: &[(24, 1537)], parts: &[(1536, Absent), data!(1, 0xa00)],
         ..ROW },
     Row { name: "to the data's end", changes: &[(24, 2048)], parts: &[(1536, Absent), DATA], ..ROW },
-    // the largest disk, past a short L1 table
+    // the largest disk, longer than its L1 table covers
     Row { name: "2^64 - 1", changes: &[(24, MAX)], parts: &[(1536, Absent), DATA, (MAX - 2048, Absent)],
         ..ROW },
     Row { name: "data in one host cluster after another, copied or not",
@@ -122,7 +122,7 @@ fn each_disk_is_told_as_extents(rt: HostRuntime) -> Result<(), Fail> {
     each(rt.alloc(), OF_TABLES, check_row)
 }
 
-// Reports the extents of the image of a row, of which no byte changes.
+// Checks the extents of a row's image, and that no byte changes.
 fn check_row(alloc: Global, row: Row) -> Result<(), Fail> {
     let mut image = sample_image(alloc, row.cluster_bits, row.changes)?;
     check_extents(
@@ -140,8 +140,8 @@ fn check_row(alloc: Global, row: Row) -> Result<(), Fail> {
     )
 }
 
-// The extents of an image, and the faults on the way. A call that is refused is made again, and the second
-// refusal ends the extents.
+// Returns the extents of an image, and the faults on the way. It repeats a refused call, and ends at the
+// second refusal.
 fn extents_of<S: Storage>(
     alloc: Global,
     image: &mut S,
@@ -168,7 +168,7 @@ fn read_extents<S: Storage>(
     Ok((told, faults))
 }
 
-// Fails unless these extents are reported of an image, and then these faults.
+// Fails unless an image has these extents, and reading them meets these faults.
 fn check_extents<S: Storage, R: Debug + Copy + Drop>(
     alloc: Global,
     image: &mut S,
@@ -181,7 +181,7 @@ fn check_extents<S: Storage, R: Debug + Copy + Drop>(
     check_parts(&extents, parts, row)
 }
 
-// Compares extents, which follow one another from offset 0 on.
+// Compares extents, which must be contiguous from offset 0 on.
 fn check_parts<R: Debug + Copy + Drop>(
     extents: &[Extent],
     parts: &[Part],
@@ -201,8 +201,8 @@ fn check_parts<R: Debug + Copy + Drop>(
     Ok(())
 }
 
-// The extents of two tables of the sample image, and how many reads report them: two of the header, that of
-// the L1 table, and one of each L2 table.
+// A disk of two L2 tables, its extents, and the number of reads that find them: two of the header, one of the
+// L1 table, and one of each L2 table.
 const TWO_TABLES: Numbers<'static> = &[(24, 65536), (32, 2), (520, 0x600)];
 
 const PARTS: &[Part] = &[(1536, Absent), DATA, (63488, Absent)];
@@ -217,7 +217,7 @@ fn a_failed_read_is_made_again(rt: HostRuntime) -> Result<(), Fail> {
     Ok(())
 }
 
-// Only the reads of the L2 tables are made again.
+// Checks the extents if a read fails. Only reads of L2 tables are repeated.
 fn check_read_again(alloc: Global, failing: u64) -> Result<(), Fail> {
     let mut image = FailingStorage::new(alloc, sample_image(alloc, 9, TWO_TABLES)?);
     image.plan = Some(failing);
@@ -229,7 +229,8 @@ fn check_read_again(alloc: Global, failing: u64) -> Result<(), Fail> {
     check_extents(alloc, &mut image, PARTS, (fault, None), failing)
 }
 
-// Changes of the sample image, and how many calls of the storage report its extents, after two of its header.
+// Changes of the sample image, and the number of storage calls that find its extents, two of them for its
+// header.
 type Calls = (&'static str, Numbers<'static>, usize);
 
 const CALLS: &[Calls] = rows! {

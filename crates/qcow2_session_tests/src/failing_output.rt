@@ -1,5 +1,4 @@
-//! An output that reports what was flushed, and fails where a test plans it, to show what a caller does
-//! then.
+//! An output that records what was flushed, and fails where a test plans it, to show how a caller reacts.
 
 ghost use Rattle.std.specs.Prelude.{None};
 
@@ -7,23 +6,22 @@ use std::alloc::Global;
 use std::io;
 use std::io::{ErrorKind, Write};
 
-/// Where an output fails.
+/// The planned failure of an output.
 #[derive(Clone, Copy)]
 pub(crate) enum Failure {
-    /// Nowhere.
+    /// None.
     Never,
-    /// Once: at the write that would take one byte more than this.
+    /// The first write after this many bytes, once.
     WriteAfter(usize),
-    /// At each flush.
+    /// Each flush.
     Flush,
-    /// Nowhere, but a write takes three bytes at most.
+    /// None, but a write takes at most three bytes.
     Short,
-    /// Once: the first write is interrupted, and is to be made again.
+    /// The first write is interrupted, once, and has to be repeated.
     Interrupted,
 }
 
-/// An output that keeps what is written to it, and reports how much of it was flushed. A call that
-/// fails keeps nothing.
+/// An output that keeps the written bytes, and the number of flushed ones. A failed call keeps nothing.
 #[derive(Drop)]
 pub(crate) struct FailingOutput {
     bytes: Vec<u8>,
@@ -32,7 +30,7 @@ pub(crate) struct FailingOutput {
 }
 
 impl FailingOutput {
-    /// An empty output that fails there.
+    /// Returns an empty output with this failure.
     pub(crate) fn new(alloc: Global, failure: Failure) -> FailingOutput {
         FailingOutput {
             bytes: Vec::new(alloc),
@@ -41,17 +39,17 @@ impl FailingOutput {
         }
     }
 
-    /// What was written, in its order.
+    /// Returns the written bytes, in order.
     pub(crate) fn bytes(&self) -> &[u8] {
         &self.bytes
     }
 
-    /// What was written before the last flush.
+    /// Returns the bytes that were written before the last flush.
     pub(crate) fn flushed(&self) -> &[u8] {
         self.bytes.get(..self.flushed).unwrap_or(&[])
     }
 
-    // How many bytes a write that has this many may take.
+    // Returns the number of bytes that a write of `len` bytes may take.
     fn room(&mut self, len: usize) -> io::Result<usize> {
         match self.failure {
             Failure::WriteAfter(0) if len > 0 => {

@@ -1,4 +1,4 @@
-//! Lists of edits of an image: what stands in it then, what is handed back, and what refuses them.
+//! Lists of edits of an image: its bytes afterwards, the handed-back clusters, and refusals.
 
 use crate::images::{Contents, check_image, recording_image};
 use crate::tables::{GONE, PAST, References, TO_0, TO_5, TO_6, check_outcome, map, outcome};
@@ -10,7 +10,7 @@ use qcow2_testing::rows;
 use std::alloc::Global;
 use std::test::Fail;
 
-// Edits of the first entry and the last one, of clusters of 2 MiB.
+// Edits of the first and the last entry of a table, with clusters of 2 MiB.
 const ENDS_OF_2_MIB: &[Edit] = rows! {
     Edit::Zero { index: 0, keep_allocation: false },
     map!(262_143, 3),
@@ -19,11 +19,11 @@ const ENDS_OF_2_MIB: &[Edit] = rows! {
 // The entry of data in cluster 5 of 512 bytes.
 const DATA: (u64, &[u8]) = (1048, &[0x80, 0, 0, 0, 0, 0, 0x0a, 0]);
 
-// The entry of the lowest reserved bit, as its last byte.
+// The last byte of an entry with the lowest reserved bit.
 const RESERVED: &[u8] = &[2];
 
-// A list of edits of the table at a cluster of an image, what they do to references or the fault that they
-// are refused by, and the image then.
+// A list of edits of the table at a cluster of an image, their effect on references or the fault that refuses
+// them, and the image afterwards.
 #[derive(Clone, Copy)]
 struct Row {
     name: &'static str,
@@ -70,7 +70,8 @@ const ROWS: &[Row] = rows! {
         expected: Err(Fault::TablePlace), after: SHORT, ..ROW },
     Row { name: "past 64 bits", cluster: u64::MAX, before: SHORT, expected: Err(Fault::TablePlace),
         after: SHORT, ..ROW },
-    // damaged entries: the last one, one that isn't aligned before it, and the last one of 2 MiB
+    // damaged entries: the last one, an unaligned one before one with a reserved bit, and the last one of 2
+    // MiB
     Row { name: "reserved", before: DAMAGED, edits: &[PAST], expected: Err(Fault::EntryReserved),
         after: DAMAGED, ..ROW },
     Row { name: "unaligned", cluster_bits: 10, cluster: 1, before: DAMAGED_2, edits: &[GONE],
@@ -81,7 +82,7 @@ const ROWS: &[Row] = rows! {
 
 const NOTHING: Result<References<'static>, Fault> = Ok(outcome!([], []));
 
-// The last cluster of 512 bytes that ends by 2^56.
+// The last cluster of 512 bytes, which ends at 2^56.
 const LAST: u64 = 0x7fff_ffff_ffff;
 
 const ONE: Contents<'static> = (1536, &[DATA]);
@@ -103,7 +104,7 @@ fn edits_stand_in_the_image_or_leave_it(rt: HostRuntime) -> Result<(), Fail> {
     Ok(())
 }
 
-// Makes the edits of a row, where this byte stands around the table.
+// Makes the edits of a row, with this byte around the table.
 fn check_edits(alloc: Global, row: Row, around: u8) -> Result<(), Fail> {
     let place = (row.cluster_bits, row.cluster);
     let mut image = recording_image(alloc, place, around, row.before)?;

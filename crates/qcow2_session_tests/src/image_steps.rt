@@ -1,4 +1,4 @@
-//! Lists of steps of an image: what came of each, what stands in the image then, and what refuses them.
+//! Lists of steps of an image: the replies, the image's bytes afterwards, and refusals.
 
 use crate::blocks::check_replies;
 use crate::images::{Contents, check_image, recording_image};
@@ -15,8 +15,8 @@ use std::test::Fail;
 // The bytes of an entry of the table in cluster 2, before the block.
 const ENTRY: &[u8] = &[0x80, 0, 0, 0, 0, 0, 0x0a, 0];
 
-// A list of steps of the block at a cluster of an image, what comes of each or the fault that they are
-// refused by, and the image then.
+// A list of steps of the block at a cluster of an image, the reply to each or the fault that refuses them,
+// and the image afterwards.
 #[derive(Clone, Copy)]
 struct Row {
     name: &'static str,
@@ -69,7 +69,7 @@ const TABLE: Contents<'static> = (1536, &[(1048, ENTRY)]);
 
 const SEVEN: Contents<'static> = (1300, &[(512, &[0, 7])]);
 
-// The last cluster of 512 bytes that ends by 2^56.
+// The last cluster of 512 bytes, which ends at 2^56.
 const LAST: u64 = 0x7fff_ffff_ffff;
 
 const PAST: Step = Step::Inc { index: 256 };
@@ -85,7 +85,7 @@ fn steps_stand_in_the_image_or_leave_it(rt: HostRuntime) -> Result<(), Fail> {
     Ok(())
 }
 
-// Makes the steps of a row, where this byte stands around the block.
+// Makes the steps of a row, with this byte around the block.
 fn check_steps(alloc: Global, row: Row, around: u8) -> Result<(), Fail> {
     let place = (row.cluster_bits, row.cluster);
     let mut image = recording_image(alloc, place, around, row.before)?;

@@ -1,4 +1,4 @@
-//! Images to edit and to step: a table or block of zeros, with other bytes around it.
+//! Images for edits and steps: a table or block of zeros, with other bytes around it.
 
 use qcow2_base::{Fault, MemStorage};
 use qcow2_testing::{FailingStorage, StorageCall, put_bytes, same, same_bytes};
@@ -8,11 +8,11 @@ use std::test::Fail;
 /// Bytes at offsets of an image.
 pub(crate) type Parts<'a> = &'a [(u64, &'a [u8])];
 
-/// How many bytes an image has, and the parts that stand in it.
+/// The length of an image in bytes, and its parts.
 pub(crate) type Contents<'a> = (usize, Parts<'a>);
 
-// An image with these parts, of cluster bits and a cluster whose other bytes are 0. This byte stands around
-// that.
+// Returns an image with these parts. Its other bytes are 0 in a cluster, given with the cluster bits, and
+// `around` elsewhere.
 fn image_of(
     alloc: Global,
     (bits, cluster): (u32, u64),
@@ -34,7 +34,7 @@ fn with_parts(mut image: MemStorage, parts: Parts<'_>) -> Result<MemStorage, Fau
     Ok(image)
 }
 
-/// Such an image that records its calls.
+/// Returns such an image that records its storage calls.
 pub(crate) fn recording_image(
     alloc: Global,
     place: (u32, u64),
@@ -44,8 +44,8 @@ pub(crate) fn recording_image(
     Ok(FailingStorage::new(alloc, image_of(alloc, place, around, contents)?))
 }
 
-/// Fails unless the image is such a one, and its cluster was read or was not, and then written or not: each
-/// by one call for each piece of 4096 bytes.
+/// Fails unless the image is such a one, and its cluster was read and then written as the flags say, each by
+/// one call for each piece of 4096 bytes.
 pub(crate) fn check_image(
     image: &FailingStorage<MemStorage>,
     alloc: Global,
@@ -63,7 +63,7 @@ pub(crate) fn check_image(
     same(reads_and_writes(image), (reads, writes), row)
 }
 
-// How many calls of the storage were reads, and how many were writes.
+// Returns the number of storage calls that were reads, and of those that were writes.
 fn reads_and_writes(image: &FailingStorage<MemStorage>) -> (usize, usize) {
     let mut writes = 0usize;
     for call in &image.calls {

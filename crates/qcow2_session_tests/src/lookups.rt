@@ -1,4 +1,4 @@
-//! What guest offsets read as, by each kind of entry, and by which fault a damaged image is refused.
+//! Lookups of guest offsets: by each kind of entry, and in damaged images, with their faults.
 
 use Answer::{Backing, Compressed, Data, Refused, Zeros};
 use qcow2_base::{Fault, GuestOffset, HostCluster, MemStorage};
@@ -13,7 +13,7 @@ use std::alloc::Global;
 use std::fmt::Debug;
 use std::test::Fail;
 
-// What a lookup returns: a mapping by its numbers, or a fault.
+// The result of a lookup: a mapping in numbers, or a fault.
 #[derive(Clone, Copy, Debug, PartialEq, Eq)]
 enum Answer {
     Data(u64, bool),
@@ -23,10 +23,10 @@ enum Answer {
     Refused(Fault),
 }
 
-// Offsets, and what the cluster of each reads as.
+// Guest offsets, and the mapping of each one's cluster.
 type Offsets<'a> = &'a [(u64, Answer)];
 
-// Changes of the sample image, and what offsets read as then.
+// Changes of the sample image, and the mappings of offsets.
 #[derive(Clone, Copy)]
 struct Row {
     name: &'static str,
@@ -76,7 +76,7 @@ const ROWS: &[Row] = rows! {
         offsets: &[(1543, Compressed(0x601, 1023))], ..ROW },
 };
 
-// Damaged images: the fault is that of the first bad part.
+// Damaged images. The first bad part decides the fault.
 const DAMAGED: &[Row] = rows! {
     Row { name: "no qcow2 image", changes: &[(0, 0x5146_49fa_0000_0003), (512, 1)],
         offsets: &[(1543, Refused(Fault::NotQcow2))], ..ROW },
@@ -110,8 +110,8 @@ const ABSENT: Offsets<'static> = &[(0, Backing(0)), (1543, Backing(1536))];
 const TOO_FAR: Offsets<'static> =
     rows! { (1543, Refused(Fault::TablePlace)), (u64::MAX, Refused(Fault::TablePlace)) };
 
-// How many bytes of the sample image there are, from a number to before another, and what an offset reads as:
-// zeros follow where an image is cut off, up to the last byte of the entry that isn't 0.
+// Lengths in bytes of the truncated sample image, from a first one to before an end, and the result of a
+// lookup. Zeros follow a truncated image, so the entry needs no byte after its last one that isn't 0.
 const CUTS: &[(usize, usize, Answer)] = &[
     (0, 4, Refused(Fault::NotQcow2)),
     (4, 8, Refused(Fault::Version)),
@@ -152,7 +152,7 @@ fn check_cuts(
     Ok(())
 }
 
-// Looks offsets up by the image alone, and by its header and its L1 table. No byte changes.
+// Looks offsets up by the image alone, and by its header and its L1 table, and checks that no byte changes.
 fn check_offsets<R: Debug + Copy + Drop>(
     alloc: Global,
     bytes: &[u8],
@@ -169,7 +169,7 @@ fn check_offsets<R: Debug + Copy + Drop>(
     same_bytes(image.bytes(), bytes, row)
 }
 
-// Looks an offset up by the header and the L1 table of an image, each loaded first.
+// Looks an offset up by the header and the L1 table of an image, which it loads first.
 fn by_tables(
     alloc: Global,
     image: &mut MemStorage,

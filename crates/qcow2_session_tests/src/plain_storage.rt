@@ -1,4 +1,4 @@
-//! That what reads and writes an image needs the four calls of a storage, and no device.
+//! Tests that the calls that read and write an image need a storage with its four calls, and no device.
 
 ghost use Rattle.std.specs.Prelude.{◌+◌, ◌≤◌, length};
 ghost use Rattle.std.proofs.lemmas.List.{get_or_past};
@@ -89,7 +89,7 @@ fn pass_metadata<S: Storage>(alloc: Global, image: &mut S) -> Result<Header, Fau
     Ok(header)
 }
 
-// What the byte at guest offset 1543 is, by both lookups, before guest cluster 3 is discarded.
+// Returns the mapping of guest offset 1543, by both lookups, before guest cluster 3 is discarded.
 fn look_up<S: Storage>(
     alloc: Global,
     image: &mut S,
@@ -103,7 +103,7 @@ fn look_up<S: Storage>(
     ])
 }
 
-// Discards guest cluster 3, takes a reference of its cluster away, and prints what the image says.
+// Discards guest cluster 3, lowers the refcount of its host cluster, and returns what commands print.
 fn change_and_print<S: Storage>(
     alloc: Global,
     image: &mut S,

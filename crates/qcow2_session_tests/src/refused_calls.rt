@@ -1,5 +1,5 @@
-//! Calls and commands of which each call of the storage is refused in turn, and commands whose output is full
-//! after each byte: what they return, and what they leave.
+//! Calls and commands over a storage that fails each call in turn, and commands over an output that is full
+//! after each byte: their results, and the image afterwards.
 
 use crate::commands::check_json::{ALL_OBJECT, LATE_OBJECT};
 use crate::commands::in_memory::run_command;
@@ -22,8 +22,9 @@ use std::alloc::Global;
 use std::io::Write;
 use std::test::Fail;
 
-// A call over an image: a load for writing, one of the table or block in cluster 2, one of an offset by the
-// L1 table in cluster 1 or by the whole image, a search for the place of a fault, or the command of a line.
+// A call over an image: a load for writing; edits or steps of the table or block in cluster 2; a lookup of an
+// offset by the L1 table in cluster 1 or by the whole image; a search for the place of a fault; or the
+// command of a line.
 #[derive(Clone, Copy, Debug)]
 enum Call {
     LoadHeader,
@@ -35,9 +36,9 @@ enum Call {
     Line(&'static str),
 }
 
-// A call over the sample image with changes: how many calls of the storage it makes, how the image differs
-// from the sample image then, and what is printed. Then what it prints again where it has changed the image,
-// and how the image differs after that, if it does so otherwise.
+// A call over the sample image with changes: the number of its storage calls, the changes of the sample image
+// afterwards, and its output. Then the output of a repetition after the image has changed, and the changes
+// after that, if they differ.
 #[derive(Clone, Copy)]
 struct Row {
     call: Call,
@@ -75,7 +76,8 @@ const ROWS: &[Row] = rows! {
     Row { call: Line("map IMAGE"), printed: EXTENTS, ..ROW },
     Row { call: Line("map IMAGE json"), printed: JSON, ..ROW },
     Row { call: Line("at IMAGE 1543"), printed: "data 0xa00 copied\n", ..ROW },
-    // the L1 table and the refcount table, each L2 table for uses, the block, each L2 table again for flags
+    // the L1 table and the refcount table, each L2 table for references, the block, each L2 table again for
+    // flags
     Row { call: Line("check IMAGE"), before: ALL_KINDS, calls: 2 + 2 + 1 + 1 + 1, after: ALL_KINDS,
         printed: ALL_LINES, ..ROW },
     Row { call: Line("check IMAGE"), before: LATE_TABLES, calls: 2 + 2 + 2 + 1 + 2, after: LATE_TABLES,
@@ -85,9 +87,9 @@ const ROWS: &[Row] = rows! {
         printed: ALL_OBJECT, ..ROW },
     Row { call: Line("check IMAGE json"), before: LATE_TABLES, calls: 2 + 2 + 2 + 1 + 2 + 3,
         after: LATE_TABLES, printed: LATE_OBJECT, ..ROW },
-    // the header, the tables and the image's end; what a check reads before the flags, and a sync; for each
-    // of four passes the L2 table or the block, with a write of the block, and one of the L1 table and one
-    // of the L2 table, and a sync; a check
+    // the header; the tables and the image's end; the reads of a check before the flags, and a sync; four
+    // passes, each with a read of the L2 table or the block, and with a sync: the third writes the block, the
+    // fourth the L1 table and the L2 table; and a check
     Row { call: Line("check IMAGE repair"), before: TO_REPAIR, calls: 2 + 3 + 4 + 1 + 2 + 2 + 3 + 4 + 5,
         after: REPAIRED, printed: "consistent\n", again: "consistent\n", ..ROW },
     Row { call: Line("l2 IMAGE 9 2"), calls: 1, printed: "3 data 0xa00 copied\n", ..ROW },
@@ -109,12 +111,13 @@ const ROWS: &[Row] = rows! {
         after: COUNTED, printed: COUNTS, again: COUNTS_AGAIN, twice: COUNTED_TWICE, ..ROW },
 };
 
-// The place of a fault is looked for after the header, and before it's printed no byte is written.
+// Searches for the place of a fault, which read the header first, and write no byte before they print the
+// place.
 const PLACES: &[Row] = rows! {
-    // a text: three fields, two extensions by two reads each, and the data of the first
+    // text that isn't UTF-8: three fields, two extensions by two reads each, and the data of the first
     Row { call: Locate(Fault::ExtensionText), before: NO_TEXT, calls: 2 + 3 + 2 * 2 + 1, after: NO_TEXT,
         printed: "in IMAGE: byte 104: extension 0xe2792aca of 1 bytes\n", ..ROW },
-    // a header whose name is before its fields takes three reads; then its cluster, and two fields
+    // a header with a name before its fields takes three reads; then its cluster, and two fields
     Row { call: Locate(Fault::HeaderTooLong), before: NO_ROOM, calls: 3 + 1 + 2, after: NO_ROOM,
         printed: "in IMAGE: byte 88: autoclear_features is 0x1\n\
             in IMAGE: byte 16: backing_file_size is 2\n", ..ROW },
@@ -181,7 +184,7 @@ const COUNTED_TWICE: Option<Numbers<'static>> = Some(&[(1536, 2 << 48), (2040, 0
 
 const AUTOCLEAR: Numbers<'static> = &[(88, 1)];
 
-// What the call of a row returns.
+// Makes the call of a row, and returns its result.
 fn make(
     alloc: Global,
     row: Row,
@@ -199,7 +202,7 @@ fn make(
     }
 }
 
-// Prints where in an image a fault is.
+// Prints the place of a fault in an image.
 fn locate<S: Device>(
     alloc: Global,
     image: &mut S,
@@ -213,7 +216,7 @@ fn locate<S: Device>(
     }
 }
 
-// The same of a call that is no line.
+// Does the same with a call that is no line.
 fn make_call(alloc: Global, row: Row, image: &mut FailingStorage<MemStorage>) -> Result<(), Fault> {
     let header = header_of(alloc, row.cluster_bits, 4, false)?;
     let cluster = HostCluster(2);
@@ -235,12 +238,12 @@ fn look_up<S: Storage>(alloc: Global, image: &mut S, offset: GuestOffset) -> Res
     lookup(alloc, image, &header, &l1_table, offset).map(|_| ())
 }
 
-// The image of a row before its call, which records its calls.
+// Returns the image of a row before its call. It records its storage calls.
 fn image_before(alloc: Global, row: Row) -> Result<FailingStorage<MemStorage>, Fault> {
     Ok(FailingStorage::new(alloc, sample_image(alloc, row.cluster_bits, row.before)?))
 }
 
-// The image of a row with what these calls wrote of its bytes after the call.
+// Returns the image of a row with only these of the call's writes.
 fn image_with_writes(alloc: Global, row: Row, calls: &[StorageCall]) -> Result<MemStorage, Fail> {
     let mut image = sample_image(alloc, row.cluster_bits, row.before)?;
     let after = sample_image(alloc, row.cluster_bits, row.after)?;
@@ -281,7 +284,7 @@ fn check_calls(alloc: Global, row: Row) -> Result<(), Fail> {
     Ok(())
 }
 
-// Makes the call of a row whose storage refuses the call after `passes`, and then once more.
+// Makes the call of a row while the storage fails its call after the first `passes`, and then once more.
 fn check_refused_call(alloc: Global, row: Row, passes: u64) -> Result<(), Fail> {
     let place = (row.call, passes);
     let mut image = image_before(alloc, row)?;
@@ -299,7 +302,7 @@ fn check_refused_call(alloc: Global, row: Row, passes: u64) -> Result<(), Fail> 
     check_after(alloc, Row { after, ..row }, &image, passes)
 }
 
-// Fails unless the call is done, and prints what it must over this image.
+// Fails unless the call succeeds with the output for this image.
 fn check_done(
     alloc: Global,
     row: Row,
@@ -314,7 +317,7 @@ fn check_done(
     same(found, (Ok(()), text), (row.call, passes))
 }
 
-// Whether more is changed of the image of a row than its header.
+// Returns whether a row's image has changed after its header's cluster.
 fn is_changed(alloc: Global, row: Row, image: &FailingStorage<MemStorage>) -> Result<bool, Fail> {
     let before = sample_image(alloc, row.cluster_bits, row.before)?;
     let start = 1usize.wrapping_shl(row.cluster_bits);
@@ -346,7 +349,8 @@ fn check_writes(alloc: Global, row: Row) -> Result<(), Fail> {
     Ok(())
 }
 
-// Makes the call of a row whose output takes `room` bytes, and then once more. The image is changed by then.
+// Makes the call of a row over an output that takes `room` bytes, and then once more. The failed call has
+// changed the image, too.
 fn check_refused_write(alloc: Global, row: Row, room: usize) -> Result<(), Fail> {
     let mut image = image_before(alloc, row)?;
     let mut out = FailingOutput::new(alloc, Failure::WriteAfter(room));

@@ -1,4 +1,4 @@
-//! Counters of a block that follow what edits of a table did to references.
+//! Refcounts of a block that follow edits of a table.
 
 use crate::blocks::{Counters, block_of, check_counters};
 use crate::tables::{
@@ -16,17 +16,17 @@ use qcow2_testing::{each, put_bytes, rows, same, same_bytes};
 use std::alloc::{AllocError, Global};
 use std::test::Fail;
 
-// How a block ends that is settled.
+// The result of settling a block.
 #[derive(Clone, Copy)]
 enum End {
-    /// Counters were changed, so that it counts as modified.
+    /// Refcounts changed, so the block counts as modified.
     Counted,
     Unchanged,
     Refused(Fault),
 }
 
-// A block that begins with these bytes and has these counters, and its index in the refcount table; what
-// edits did, how the block ends, and its counters then.
+// A block that begins with these bytes and has these refcounts, and its index in the refcount table; the
+// effect of edits on references, the result of settling, and the refcounts afterwards.
 #[derive(Clone, Copy)]
 struct Row<'a> {
     name: &'static str,
@@ -54,12 +54,12 @@ const ROW: Row<'static> = Row {
     after: FIVE,
 };
 
-// The index in the refcount table of a block of 64 counters whose first one is for cluster 2^64.
+// The index in the refcount table of a block of 64 refcounts, the first of which is that of cluster 2^64.
 const AT_2_TO_THE_64: usize = 1 << 58;
 
 const MAX: u64 = u64::MAX;
 
-// All counters of a block of 64.
+// Refcount 1 for all clusters of a block of 64.
 const ONES: Counters<'static> = &[(0, 64, 1)];
 
 const FIVE: Counters<'static> = &[(5, 1, 1)];
@@ -84,7 +84,7 @@ const ROWS: &[Row<'static>] = rows! {
     Row { name: "no cluster", references: outcome!([], [(5, 0)]), ..ROW },
     Row { name: "an external data file", external: true, references: outcome!([5], [(6, 1)]), end: EXTERNAL,
         ..ROW },
-    // what was counted up or down before a refusal is put back
+    // a refusal restores the refcounts that were raised or lowered before it
     Row { name: "200 counted down before one that can't be", before: FIRST_200,
         references: outcome!([0, 1, 2], [(0, 200), (255, 1)]), end: OUT_OF_RANGE, after: FIRST_200, ..ROW },
     // a cluster that gains or loses more than one reference
@@ -116,7 +116,7 @@ const AT_BORDERS: &[Row<'static>] = rows! {
 
 const FIRST_200: Counters<'static> = &[(0, 200, 1)];
 
-// A refcount order, how many counters a block of 512 bytes has, and the greatest number of each.
+// A refcount order, the number of refcounts in a block of 512 bytes, and the largest refcount.
 type Width = (u32, usize, u64);
 
 const WIDTHS: &[Width] = rows! {
@@ -124,7 +124,7 @@ const WIDTHS: &[Width] = rows! {
     (6, 64, MAX),
 };
 
-// Settles the block of a row, with each flag.
+// Settles the block of a row, without and with the modified flag.
 fn check_both(alloc: Global, row: Row<'_>) -> Result<(), Fail> {
     check_settled(alloc, row, false)?;
     check_settled(alloc, row, true)
@@ -145,8 +145,8 @@ fn no_counter_passes_the_greatest_number_of_its_width(rt: HostRuntime) -> Result
     each(rt.alloc(), WIDTHS, check_ends)
 }
 
-// A cluster gains what it loses where its counter is 0, but not where it is at the greatest number, as all
-// are of bytes 0xff.
+// Checks that a cluster can gain and lose a reference if its refcount is 0, but not if it is the largest one,
+// as all refcounts are in bytes 0xff.
 fn check_ends(alloc: Global, (order, count, greatest): Width) -> Result<(), Fail> {
     let full = [(0, count, greatest)];
     let below = [(5, 1, greatest.wrapping_sub(1)), (0, count, greatest)];
@@ -186,7 +186,7 @@ fn check_end(
     check_both(alloc, row)
 }
 
-// What edits did, as they would report it.
+// Returns gained and lost references as an outcome.
 fn outcome_of(alloc: Global, (gained, freed): References<'_>) -> Result<Outcome, AllocError> {
     Ok(Outcome {
         gained: Vec::from_slice(alloc, gained)?,
@@ -194,7 +194,7 @@ fn outcome_of(alloc: Global, (gained, freed): References<'_>) -> Result<Outcome,
     })
 }
 
-// Settles the block of a row, with this flag.
+// Settles the block of a row, with this modified flag.
 fn check_settled(alloc: Global, row: Row<'_>, modified: bool) -> Result<(), Fail> {
     let image = (row.cluster_bits, row.refcount_order, row.external);
     let mut block = block_of(alloc, image, (row.bytes, row.before), modified)?;
@@ -210,11 +210,12 @@ fn check_settled(alloc: Global, row: Row<'_>, modified: bool) -> Result<(), Fail
     check_counters(&block, row.after, modified || counts_some, row.name)
 }
 
-// Entry 3 of a table of compressed data in clusters 0 and 1.
+// An entry of compressed data in clusters 0 and 1.
 const COMPRESSED_0_1: u64 = 0x6000_0000_0000_0001;
 
-// A block, its index in the refcount table, and entry 3 of a table. Edits of that, what they did or the
-// fault, and what is left of both; whether the block then counts as modified though it didn't.
+// A block, its index in the refcount table, and entry 3 of a table; edits of the table, their effect on
+// references or the fault, the block and the entry afterwards; and whether the edits make the block count as
+// modified.
 #[derive(Clone, Copy)]
 struct Settled {
     name: &'static str,
@@ -282,7 +283,7 @@ fn edits_are_counted_or_not_made(rt: HostRuntime) -> Result<(), Fail> {
     Ok(())
 }
 
-// Makes the edits of a table and a block with these flags.
+// Makes the edits of a row in a table and a block with these modified flags.
 fn check_settled_edits(
     alloc: Global,
     row: Settled,
@@ -310,7 +311,7 @@ fn edit_both(
     edit_settled(alloc, table, block, &header, row.rt_index, row.edits)
 }
 
-// The sample image with a refcount block at cluster 3, in which cluster 5 has a reference.
+// Returns the sample image with a refcount block in cluster 3, where cluster 5 has refcount 1.
 fn image_with_block(alloc: Global) -> Result<MemStorage, Fail> {
     let mut image = sample_image(alloc, 9, &[])?;
     put_bytes(&mut image, 1536, &[0, 1, 0, 1, 0, 1, 0, 1, 0, 0, 0, 1])?;
@@ -318,7 +319,7 @@ fn image_with_block(alloc: Global) -> Result<MemStorage, Fail> {
     Ok(image)
 }
 
-// Edits the table at cluster 2 of the image, and counts that in the block at cluster 3.
+// Edits the table in cluster 2 of the image, and settles the block in cluster 3.
 fn edit_and_settle(alloc: Global, image: &mut MemStorage, edits: &[Edit]) -> Result<(), Fault> {
     let header = header_of(alloc, 9, 4, false)?;
     let outcome = edit_image(alloc, image, &header, HostCluster(2), edits)?;

@@ -1,4 +1,4 @@
-//! Lists of steps of a refcount block: what came of each, what all leave, and which lists are refused.
+//! Lists of steps of a refcount block: the replies, the refcounts afterwards, and refused lists.
 
 use crate::blocks::{Counters, block_of, check_counters, check_replies};
 use StepReply::{Done, Refused};
@@ -9,7 +9,7 @@ use qcow2_testing::{each, rows};
 use std::alloc::{AllocError, Global};
 use std::test::Fail;
 
-/// Steps of the counters at the first indices.
+/// Steps of the first two refcounts of a block.
 pub(crate) const INC_0: Step = Step::Inc { index: 0 };
 
 pub(crate) const DEC_0: Step = Step::Dec { index: 0 };
@@ -18,15 +18,14 @@ pub(crate) const INC_1: Step = Step::Inc { index: 1 };
 
 pub(crate) const DEC_1: Step = Step::Dec { index: 1 };
 
-// Steps of three counters, of which the first is at the greatest number, the next one below it, and the last
-// at 0.
+// Steps of three refcounts: the largest one, the next smaller one, and 0.
 const AT_ENDS: &[Step] = rows! {
     INC_1, INC_1, DEC_1, INC_0, DEC_0, Step::Dec { index: 2 }, Step::Inc { index: 2 },
     Step::Dec { index: 2 }, Step::Dec { index: 2 },
 };
 
-// A list of steps of a block that begins with these bytes, what came of each or the position of the first
-// that is refused with the whole list, and the counters then.
+// A list of steps of a block that begins with these bytes, the reply to each or the position of the first
+// step that refuses the whole list, and the refcounts afterwards.
 #[derive(Clone, Copy)]
 struct Row<'a> {
     name: &'a str,
@@ -73,7 +72,7 @@ const ROWS: &[Row<'static>] = rows! {
         counters: &[(0, 1, 1)], ..ROW },
 };
 
-/// What comes of two increments and a decrement of a counter at 0, and of a decrement of another one.
+/// The replies to two increments and a decrement of a refcount of 0, and to a decrement of another one.
 pub(crate) const UP_UP_DOWN: &[StepReply] = &[Done(0), Done(1), Done(2), Refused];
 
 #[test]
@@ -85,7 +84,7 @@ fn steps_are_made_in_their_order_or_refused_together(rt: HostRuntime) -> Result<
     Ok(())
 }
 
-// Makes the steps of a row, of a block with this flag.
+// Makes the steps of a row in a block with this modified flag.
 fn check_steps(alloc: Global, row: Row<'_>, modified: bool) -> Result<(), Fail> {
     let image = (9, row.refcount_order, false);
     let mut block = block_of(alloc, image, (row.bytes, &[]), modified)?;
@@ -94,8 +93,8 @@ fn check_steps(alloc: Global, row: Row<'_>, modified: bool) -> Result<(), Fail> 
     check_counters(&block, row.counters, modified || some_done, row.name)
 }
 
-// A refcount order, and the first bytes of a block: a counter at the greatest number of its width, which
-// follows, one below it, and one at 0.
+// A refcount order, the first bytes of a block, which are the largest refcount, the next smaller one, and 0;
+// and the largest refcount.
 type Width = (u32, &'static [u8], u64);
 
 const WIDTHS: &[Width] = rows! {
@@ -120,7 +119,7 @@ fn check_width(alloc: Global, (order, bytes, greatest): Width) -> Result<(), Fai
     check_made(alloc, (order, bytes), AT_ENDS, replies, &counters)
 }
 
-// Fails unless steps of a block that begins with these bytes do this.
+// Fails unless steps of a block that begins with these bytes get these replies and leave these refcounts.
 fn check_made<'a>(
     alloc: Global,
     (refcount_order, bytes): (u32, &'a [u8]),
@@ -145,8 +144,8 @@ fn no_counter_passes_the_ends_of_its_width(rt: HostRuntime) -> Result<(), Fail> 
     each(rt.alloc(), WIDTHS, check_width)
 }
 
-// The first `count` steps of ten thousand increments of 256 counters, one after the other, over and over, and
-// then a decrement for each of them, the last one first, with what comes of them.
+// Returns the first `count` steps, with their replies, of ten thousand increments that cycle through 256
+// refcounts, followed by a decrement for each, in reverse order.
 fn many_steps(alloc: Global, count: usize) -> Result<(Vec<Step>, Vec<StepReply>), AllocError> {
     let mut steps = Vec::new(alloc);
     let mut replies = Vec::new(alloc);
@@ -168,7 +167,7 @@ fn check_many(alloc: Global, count: usize, counters: Counters<'_>) -> Result<(),
     check_made(alloc, (4, &[]), &steps, &replies, counters)
 }
 
-// 10,000 is 39 times 256, and 16.
+// 10,000 is 39 times 256, plus 16.
 #[test]
 fn ten_thousand_steps_up_and_down_are_made_in_their_order(rt: HostRuntime) -> Result<(), Fail> {
     check_many(rt.alloc(), 10_000, &[(0, 16, 40), (16, 240, 39)])?;

@@ -1,4 +1,4 @@
-//! L2 tables to edit, and comparisons of what edits of them leave.
+//! L2 tables for edits, and comparisons of the results.
 
 use qcow2_base::{Fault, HostCluster, MemStorage};
 use qcow2_calls::{header_of, load_table};
@@ -9,10 +9,10 @@ use std::alloc::{AllocError, Global};
 use std::fmt::Debug;
 use std::test::Fail;
 
-/// The index of the first of some entries of a table, and the entries. All others of the table are 0.
+/// The index of the first of some consecutive entries of a table, and the entries. All others are 0.
 pub(crate) type Entries<'a> = (usize, &'a [u64]);
 
-/// What edits did to references: the clusters that gained one, and those that lost one.
+/// The effect of edits on references: the clusters that gained one, and those that lost one.
 pub(crate) type References<'a> = (&'a [HostCluster], &'a [ClustersToFreeEntry]);
 
 // The cluster of each table.
@@ -21,7 +21,8 @@ const CLUSTER: HostCluster = HostCluster(0);
 /// The entry of data in cluster 5 of 512 bytes.
 pub(crate) const DATA_5: u64 = 0x8000_0000_0000_0a00;
 
-// References by their numbers: of those that were lost the first that one edit handed back, and how many.
+// Makes references from numbers: clusters that gained one, and ranges that an edit handed back, each by its
+// first cluster and its length.
 macro_rules! outcome {
     ([$($gained:expr),*], [$(($first:expr, $count:expr)),*]) => {
         (
@@ -34,7 +35,7 @@ macro_rules! outcome {
     };
 }
 
-// An edit that maps the entry at an index to a cluster.
+// Makes an edit that maps the entry at an index to a cluster.
 macro_rules! map {
     ($index:expr, $cluster:expr) => {
         qcow2_session::Edit::Map {
@@ -73,7 +74,7 @@ pub(crate) const GONE: Edit = Edit::Discard { index: 3 };
 // An edit past the end of a table of 64 entries.
 pub(crate) const PAST: Edit = map!(64, 5);
 
-/// The bytes of these entries of a table.
+/// Returns the bytes of a table up to the last of these entries.
 pub(crate) fn table_of(alloc: Global, entries: Entries<'_>) -> Result<Vec<u8>, AllocError> {
     let (start, numbers) = entries;
     let mut bytes = vec![in alloc; 0; start.saturating_mul(8)]?;
@@ -83,7 +84,7 @@ pub(crate) fn table_of(alloc: Global, entries: Entries<'_>) -> Result<Vec<u8>, A
     Ok(bytes)
 }
 
-/// A table of an image with these cluster bits, whose guest data may lie in an external data file.
+/// Returns a table with these entries, of an image with these cluster bits, and maybe an external data file.
 pub(crate) fn table_with(
     alloc: Global,
     (bits, external): (u32, bool),
@@ -99,7 +100,7 @@ pub(crate) fn table_with(
     Ok(table)
 }
 
-/// Fails unless the table has these entries, its cluster and this flag.
+/// Fails unless the table has these entries, its cluster and this modified flag.
 pub(crate) fn check_table<R: Debug + Copy + Drop>(
     table: &L2Table,
     entries: Entries<'_>,
@@ -124,7 +125,7 @@ fn number_at(entries: Entries<'_>, index: usize) -> u64 {
     0
 }
 
-/// Fails unless edits returned this: what they did to references, or a fault.
+/// Fails unless edits returned this effect on references, or this fault.
 pub(crate) fn check_outcome<R: Debug + Drop>(
     answer: Result<Outcome, Fault>,
     expected: Result<References<'_>, Fault>,

@@ -1,5 +1,5 @@
-//! A whole image, of two L2 tables that share no byte: what edits of one of them leave of all references, and
-//! of the other's mappings.
+//! A whole image with two L2 tables that share no byte: all references after edits of one table, and the
+//! mappings of the other.
 
 use crate::tables::map;
 use qcow2_base::{Fault, GuestOffset, HostCluster, MemStorage};
@@ -12,17 +12,17 @@ use qcow2_testing::{COPIED, Numbers, each, part_of, row_error, rows, same};
 use std::alloc::Global;
 use std::test::Fail;
 
-// How many host clusters are looked at. Clusters have 512 bytes.
+// The number of host clusters that are checked. Clusters have 512 bytes.
 const CLUSTERS: usize = 32;
 
-// How many entries of both tables refer to each host cluster.
+// The number of entries of both tables that refer to each host cluster.
 type References = [u64; CLUSTERS];
 
-// Clusters and how often each is referred to: all others aren't.
+// Clusters and the number of references to each. All others have none.
 type Counts = &'static [(usize, u64)];
 
 // The header, an L1 table of two entries in cluster 1, and L2 tables in clusters 2 and 3. The first has data
-// in cluster 5, and compressed data in clusters 11 and 12; the second has data in cluster 5 too, zeros that
+// in cluster 5, and compressed data in clusters 11 and 12; the second has data in cluster 5, too, zeros that
 // keep cluster 6, and compressed data in cluster 12.
 const TWO_TABLES: Numbers<'static> = rows! {
     (24, 65536), (32, 2), (520, COPIED + 0x600), (1056, 0x6000_0000_0000_1601),
@@ -31,7 +31,7 @@ const TWO_TABLES: Numbers<'static> = rows! {
 
 const BEFORE: Counts = &[(5, 2), (6, 1), (11, 1), (12, 2)];
 
-// Edits of one of both tables, 0 or 1, and the references then.
+// Edits of one table, 0 or 1, and the references afterwards.
 #[derive(Clone, Copy)]
 struct Row {
     name: &'static str,
@@ -52,7 +52,8 @@ const ROWS: &[Row] = rows! {
         after: &[(5, 2), (6, 1), (11, 1), (12, 2), (30, 1)] },
 };
 
-// Zeros that keep a cluster, that keep none, and that keep none of compressed data.
+// Zeros that keep a cluster, zeros that keep none, and zeros in place of compressed data, which keep none
+// either.
 const ZEROS: &[Edit] = rows! {
     Edit::Zero { index: 0, keep_allocation: true }, Edit::Zero { index: 1, keep_allocation: false },
     Edit::Zero { index: 2, keep_allocation: true },
@@ -73,7 +74,7 @@ fn check_row(alloc: Global, row: Row) -> Result<(), Fail> {
     same(mappings(alloc, &mut image, other_table)?, other, row.name)
 }
 
-// Those after and those handed back are as many as those before and those gained.
+// Checks the balance: references after plus freed ones equal references before plus gained ones.
 fn check_balance(alloc: Global, image: &mut MemStorage, row: Row) -> Result<(), Fail> {
     let mut gained = references(image.bytes())?;
     same(gained, references_of(BEFORE)?, row.name)?;
@@ -95,7 +96,7 @@ fn edit(alloc: Global, image: &mut MemStorage, row: Row) -> Result<Outcome, Faul
     )
 }
 
-// What the guest clusters of the first table or of the second one read as, none of which is refused.
+// Returns the mappings of all guest clusters of the first or the second table, none of which is refused.
 fn mappings(alloc: Global, image: &mut MemStorage, table: u64) -> Result<Vec<L2Mapping>, Fault> {
     let mut mappings = Vec::new(alloc);
     for index in 0..64u64 {
@@ -116,7 +117,7 @@ fn references_of(counts: Counts) -> Result<References, Fail> {
     Ok(references)
 }
 
-// The references of all entries from cluster 2 on.
+// Returns the references of all entries from cluster 2 on.
 fn references(image: &[u8]) -> Result<References, Fail> {
     let mut references = [0; CLUSTERS];
     let (entries, _) = part_of(image, 1024, image.len())?.as_chunks::<8>();
@@ -127,8 +128,8 @@ fn references(image: &[u8]) -> Result<References, Fail> {
     Ok(references)
 }
 
-// The first cluster that an entry refers to, and how many it does. With clusters of one sector, compressed
-// data begins at the byte of the bits 0 to 55, and goes on for one sector more where bit 61 is set.
+// Returns the first cluster that an entry refers to, and the number of such clusters. With clusters of one
+// sector, bits 0 to 55 are the offset of compressed data, and bit 61 adds a second sector.
 fn clusters_of(entry: u64) -> (u64, u64) {
     let first = entry % (1 << 56) / 512;
     if entry >> 62 & 1 == 1 {

@@ -1,4 +1,4 @@
-//! Features, their fields and extensions by their numbers, and the keys of features.
+//! Features, feature types and extension types by their numbers, and the keys of features.
 
 use qcow2_metadata::{
     AutoclearFeatures, CompatibleFeatures, FeatureType, HeaderExtensionType, IncompatibleFeatures,
@@ -8,7 +8,7 @@ use qcow2_testing::{all_same, rows, same, same_text};
 use std::fmt::Debug;
 use std::test::Fail;
 
-// Numbers, and what each stands for.
+// Numbers, and the value of each.
 type Numbers<N, T> = &'static [(N, Result<T, UnknownValue>)];
 
 const INCOMPATIBLE: Numbers<u64, IncompatibleFeatures> = rows! {
@@ -36,7 +36,7 @@ const EXTENSIONS: Numbers<u32, HeaderExtensionType> = rows! {
     (0x4441_5441, Ok(HeaderExtensionType::ExternalDataFileName)), (7, Err(UnknownValue)),
 };
 
-// Fails unless each number stands for what it does, which has that number.
+// Fails unless each number converts to its value, and each value back to its number.
 fn check_numbers<N, T>(rows: Numbers<N, T>) -> Result<(), Fail>
 where
     N: Copy + PartialEq + Debug,

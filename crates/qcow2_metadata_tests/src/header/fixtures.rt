@@ -1,4 +1,4 @@
-//! Images that begin with a header, by the fields and the bytes that differ.
+//! Images that begin with a header, given by the fields and bytes that differ.
 
 use qcow2_base::{Fault, MemStorage};
 use qcow2_calls::load_header;
@@ -7,14 +7,13 @@ use qcow2_testing::{filled_image, put_bytes, row_error, rows};
 use std::alloc::Global;
 use std::test::Fail;
 
-/// What differs in an image, with a comma after each part but the last. `version=2` sets a field of the
-/// header to a number, whose digits after `0x` are hexadecimal. `104=format 03:raw` puts bytes at a place:
-/// numbers of one to eight bytes in hexadecimal digits, each maybe with how many times it stands, as
-/// `ff*40`; the name of a kind of extension before its length, which is below 256; and a text after a
-/// colon. All other bytes are zero, or as they were.
+/// The changes of an image, separated by commas. `version=2` sets a field of the header to a number, in
+/// hexadecimal digits after `0x`. `104=format 03:raw` puts bytes at an offset: numbers of one to eight bytes
+/// in hexadecimal digits, optionally with a repetition, as in `ff*40`; the name of an extension type before
+/// its length, which is below 256; and a text after a colon. All other bytes stay, or are zero.
 pub(crate) type Changes = &'static str;
 
-// The fields of the header: the name of each, its place, and how many bytes it has.
+// The fields of the header: name, offset and length in bytes.
 const FIELDS: &[(&str, u64, usize)] = rows! {
     ("magic", 0, 4), ("version", 4, 4), ("backing_file_offset", 8, 8), ("backing_file_size", 16, 4),
     ("cluster_bits", 20, 4), ("size", 24, 8), ("crypt_method", 32, 4), ("l1_size", 36, 4),
@@ -24,19 +23,19 @@ const FIELDS: &[(&str, u64, usize)] = rows! {
     ("header_length", 100, 4),
 };
 
-// The least header: refcounts have 16 bits.
+// The minimal header, with refcounts of 16 bits.
 const LEAST: Changes =
     "magic=0x514649fb, version=3, cluster_bits=9, refcount_order=4, header_length=104";
 
-/// What makes the least header one of version 2, with the backing file a.img.
+/// Changes that turn the minimal header into one of version 2, with the backing file a.img.
 pub(crate) const OLDER: Changes = "version=2, backing_file_offset=512, backing_file_size=5, \
     cluster_bits=16, 512=:a.img";
 
-/// The same with other bytes where a header of version 3 goes on.
+/// The same, with other bytes in place of the fields of version 3.
 pub(crate) const OLDER_FILLED: Changes = "version=2, backing_file_offset=512, backing_file_size=5, \
     cluster_bits=16, 72=ff*32, 104=format 03:raw, 512=:a.img";
 
-/// The least header with these changes, and then others.
+/// Returns an image of the minimal header with these changes, and then others.
 pub(crate) fn least_with(
     alloc: Global,
     changes: Changes,
@@ -49,7 +48,7 @@ pub(crate) fn least_with(
     Ok(image)
 }
 
-/// Makes the changes of an image, which grows where it is too short.
+/// Makes the changes of an image, which grows as needed.
 pub(crate) fn change(alloc: Global, image: &mut MemStorage, changes: Changes) -> Result<(), Fail> {
     for part in changes.split(", ") {
         if !part.is_empty() {
@@ -73,7 +72,7 @@ fn change_part(alloc: Global, image: &mut MemStorage, part: &str) -> Result<(), 
     put_number(image, place, len, number)
 }
 
-// The place of a field, and how many bytes it has.
+// Returns the offset and the length of a field.
 fn field(name: &str) -> Option<(u64, usize)> {
     for (known, place, len) in FIELDS {
         if *known == name {
@@ -91,7 +90,7 @@ fn number(text: &str) -> Option<u64> {
     number.ok()
 }
 
-// Puts the last bytes of a number into the image, if the others are zero.
+// Writes the last `len` bytes of a number into the image; fails unless the others are zero.
 fn put_number(image: &mut MemStorage, place: u64, len: usize, number: u64) -> Result<(), Fail> {
     let bytes = number.to_be_bytes();
     let Some((zeros, bytes)) = bytes.split_at_checked(8usize.saturating_sub(len)) else {
@@ -103,7 +102,7 @@ fn put_number(image: &mut MemStorage, place: u64, len: usize, number: u64) -> Re
     Ok(put_bytes(image, place, bytes)?)
 }
 
-// The bytes that a text stands for.
+// Returns the bytes that a text describes.
 fn bytes_of(alloc: Global, text: &str) -> Result<Vec<u8>, Fail> {
     let (words, name) = text.split_once(':').unwrap_or((text, ""));
     let mut bytes = Vec::new(alloc);
@@ -130,7 +129,8 @@ fn push_word(bytes: &mut Vec<u8>, word: &str) -> Result<(), Fail> {
     Ok(())
 }
 
-// The number of a kind of extension, and the first bytes of its length, or digits as they are.
+// Returns the digits of an extension type and of all but the last byte of its length, or other digits as they
+// are.
 fn digits_of(word: &str) -> &str {
     match word {
         "format" => "e2792aca000000",
@@ -140,19 +140,19 @@ fn digits_of(word: &str) -> &str {
     }
 }
 
-/// An image of this many bytes of 0xa5 that begins with the text, and is longer where that is.
+/// Returns an image of `len` bytes 0xa5 that begins with the text, and is longer if the text is.
 pub(crate) fn filled_with(alloc: Global, len: usize, text: &[u8]) -> Result<MemStorage, Fault> {
     let mut image = filled_image(alloc, len)?;
     put_bytes(&mut image, 0, text)?;
     Ok(image)
 }
 
-/// Loads the least header with these changes, and then others.
+/// Loads the minimal header with these changes, and then others.
 pub(crate) fn load_with(alloc: Global, changes: Changes, others: Changes) -> Result<Header, Fail> {
     Ok(load_header(alloc, &mut least_with(alloc, changes, others)?, false)?)
 }
 
-/// The fault that a load is refused by, if it is.
+/// Returns the fault of a load, if it is refused.
 pub(crate) fn refusal(alloc: Global, image: &mut MemStorage) -> Option<Fault> {
     load_header(alloc, image, false).err()
 }

@@ -1,4 +1,4 @@
-//! What a load of a header returns.
+//! Loads of headers.
 
 use super::fixtures::{Changes, least_with, load_with, refusal};
 use super::names::{NO_NAMES, Names, called, loaded_names};
@@ -9,7 +9,7 @@ use qcow2_testing::{each, rows, same};
 use std::alloc::Global;
 use std::test::Fail;
 
-// Changes to the least header, and the names that are loaded then, or the fault.
+// Changes of the minimal header, and the loaded names, or the fault.
 type Loaded = (Changes, Result<Names<'static>, Fault>);
 
 const LOADED: &[Loaded] = rows! {
@@ -25,17 +25,17 @@ const LOADED: &[Loaded] = rows! {
     ("refcount_order=0x1000004", Err(Fault::RefcountWidth)),
     ("refcount_order=0x10004", Err(Fault::RefcountWidth)),
     ("refcount_order=260", Err(Fault::RefcountWidth)),
-    // incompatible features but an external data file are reported
+    // incompatible features other than an external data file are reported
     ("incompatible_features=1", Err(Fault::Incompatible(1))),
     ("incompatible_features=2", Err(Fault::Incompatible(2))),
     ("incompatible_features=6", Err(Fault::Incompatible(2))),
     ("incompatible_features=0x18", Err(Fault::Incompatible(24))),
     ("incompatible_features=0x8000000000000004", Err(Fault::Incompatible(0x8000_0000_0000_0000))),
     ("incompatible_features=0xffffffffffffffff", Err(Fault::Incompatible(0xffff_ffff_ffff_fffb))),
-    // where the magic, the version or the cluster size is bad, all fields after it may be bad too
+    // a bad magic, version or cluster size is found before bad fields after it
     ("0=ff*104", Err(Fault::NotQcow2)), ("4=ff*100", Err(Fault::Version)),
     ("8=ff*96", Err(Fault::ClusterSize)),
-    // tables that begin with a cluster of 512 bytes, but not with one of 1024
+    // tables at the start of a cluster of 512 bytes, but not of one of 1024
     ("l1_table_offset=0x200, refcount_table_offset=0x200", Ok(NO_NAMES)),
     ("l1_table_offset=0x200, cluster_bits=10", Err(Fault::L1Unaligned)),
     ("refcount_table_offset=0x200, cluster_bits=10", Err(Fault::ReftableUnaligned)),
@@ -51,11 +51,11 @@ const LOADED: &[Loaded] = rows! {
     // an extension of another type, up to the cluster's end
     ("107=0700000188", Ok(NO_NAMES)), ("107=0700000189", Err(Fault::ExtensionsExceed)),
     ("107=0700000190", Err(Fault::ExtensionsExceed)), ("107=07ffffffff", Err(Fault::ExtensionsExceed)),
-    // End has a length too, and nothing after it is read
+    // End has a length, too, and nothing after it is read
     ("110=0190", Ok(NO_NAMES)), ("110=0191", Err(Fault::ExtensionsExceed)),
     ("108=ffffffff", Err(Fault::ExtensionsExceed)),
     ("107=0700000180, 503=09", Err(Fault::ExtensionsExceed)), ("112=format 01 ff", Ok(NO_NAMES)),
-    // data that ends within the cluster, though its padding doesn't
+    // data that ends within the cluster, with padding that doesn't
     ("header_length=105, 111=018f", Ok(NO_NAMES)),
     ("header_length=105, 105=e2792aca 0000018f ff", Err(Fault::ExtensionText)),
 };
@@ -70,19 +70,19 @@ const OF_EXTENSIONS: &[Loaded] = rows! {
     ("104=data 03 eda080", Err(Fault::ExtensionText)), ("104=format 02 c080", Err(Fault::ExtensionText)),
     ("incompatible_features=4", Ok(Names { external: true, ..NO_NAMES })),
     ("104=format 00", Ok(Names { format: Some(""), ..NO_NAMES })),
-    // the padding counts from the extension and not from the image
+    // the padding is relative to the extension, not to the image
     ("header_length=105, 105=format 03:raw, 121=data 01:a",
         Ok(Names { format: Some("raw"), data_file: Some("a"), ..NO_NAMES })),
-    // the same format twice, and others
+    // the same format twice, and different ones
     ("104=format 01:a, 120=format 01:a", Ok(Names { format: Some("a"), ..NO_NAMES })),
     ("104=format 01:a, 120=format 01:b, 136=format 01:a", Err(Fault::FormatConflict)),
     ("104=format 01:a, 120=data 01:b", Ok(Names { format: Some("a"), data_file: Some("b"), ..NO_NAMES })),
-    // the extensions in their order, then formats, then data files
+    // checks: the extensions in their order, then formats, then data files
     ("104=names 01 00, 120=data 01 ff", Err(Fault::FeatureNameCut)),
     ("104=data 01 ff, 120=names 01 00, 139=0700000191", Err(Fault::ExtensionText)),
     ("104=format 01:a, 120=format 01:b, 139=0700000191", Err(Fault::ExtensionsExceed)),
     ("104=data 01:a, 120=data 01:b, 136=format 01:a, 152=format 01:b", Err(Fault::FormatConflict)),
-    // a name of a feature that has one byte
+    // a feature name table of one byte
     ("104=names 01 00", Err(Fault::FeatureNameCut)), ("104=names 01 01", Err(Fault::FeatureNameCut)),
     ("104=names 01 02", Err(Fault::FeatureNameCut)), ("104=names 31", Err(Fault::FeatureNameCut)),
     // as many extensions as the first cluster holds
@@ -92,7 +92,7 @@ const OF_EXTENSIONS: &[Loaded] = rows! {
 };
 
 const OF_BACKING_FILES: &[Loaded] = rows! {
-    // a backing file's name lies anywhere in the first cluster
+    // a backing file's name anywhere in the first cluster
     ("backing_file_offset=504, backing_file_size=8",
         Ok(Names { backing: Some("\0\0\0\0\0\0\0\0"), ..NO_NAMES })),
     ("backing_file_offset=504, backing_file_size=9", Err(Fault::BackingNamePlace)),
@@ -105,12 +105,12 @@ const OF_BACKING_FILES: &[Loaded] = rows! {
     ("backing_file_offset=0xffffffffffffffff", Err(Fault::BackingNamePlace)),
     ("backing_file_offset=0xffffffffffffffff, backing_file_size=1024", Err(Fault::BackingNameLong)),
     ("backing_file_size=0xffffffff", Ok(NO_NAMES)),
-    // one that is longer than the cluster
+    // a name that is longer than the cluster
     ("backing_file_offset=1, backing_file_size=512", Err(Fault::BackingNamePlace)),
     ("backing_file_offset=1, backing_file_size=513", Err(Fault::BackingNamePlace)),
     ("backing_file_offset=1, backing_file_size=1023", Err(Fault::BackingNamePlace)),
     ("backing_file_offset=0xffffffffffffffff, backing_file_size=1023", Err(Fault::BackingNamePlace)),
-    // one of 1023 bytes, of which the last is no text, and one of 1024
+    // a name of 1023 bytes, the last of which isn't text, and one of 1024
     ("cluster_bits=11, backing_file_offset=1024, backing_file_size=1023, 2046=ff",
         Err(Fault::BackingNameText)),
     ("cluster_bits=11, backing_file_offset=1024, backing_file_size=1024", Err(Fault::BackingNameLong)),
@@ -136,9 +136,9 @@ fn a_load_returns_the_name_of_the_backing_file_or_a_fault(rt: HostRuntime) -> Re
     each(rt.alloc(), OF_BACKING_FILES, check_loaded)
 }
 
-// Changes to the least header that break one condition each, and the fault. Faults are in the order in which
-// conditions are looked at. Of a backing file's offset (bytes 8 to 15) and length (16 to 19) single bytes are
-// changed, so that these changes can be made together.
+// Changes of the minimal header that break one condition each, and the fault, in the order in which a load
+// checks. The backing file's offset (bytes 8 to 15) and length (16 to 19) are changed in single bytes, so
+// that these changes can be combined.
 const BROKEN: &[(Changes, Fault)] = rows! {
     ("magic=0x504649fb", Fault::NotQcow2), ("version=4", Fault::Version),
     ("cluster_bits=22", Fault::ClusterSize), ("header_length=103", Fault::HeaderShort),
@@ -152,8 +152,8 @@ const BROKEN: &[(Changes, Fault)] = rows! {
     ("incompatible_features=2", Fault::Incompatible(2)),
 };
 
-// The change by itself and with each other one: the fault of the smaller number decides. Returns with how
-// many it is made.
+// Makes the change by itself and with each other one, and expects the fault with the smaller number. Returns
+// the number of combinations.
 fn check_with_each_other(alloc: Global, changes: Changes, fault: Fault) -> Result<u32, Fail> {
     let mut made = 0u32;
     for (others, other) in BROKEN {
@@ -168,7 +168,8 @@ fn check_with_each_other(alloc: Global, changes: Changes, fault: Fault) -> Resul
     Ok(made)
 }
 
-// Two changes that put different bytes into one place can't be made together.
+// Checks two changes together, and returns whether that is possible: two changes that write different bytes
+// to one offset can't be combined.
 fn check_both(alloc: Global, changes: (Changes, Changes), expected: Fault) -> Result<bool, Fail> {
     let mut image = least_with(alloc, changes.0, changes.1)?;
     let turned = least_with(alloc, changes.1, changes.0)?;
@@ -185,15 +186,15 @@ fn the_first_condition_that_fails_decides(rt: HostRuntime) -> Result<(), Fail> {
     for (changes, fault) in BROKEN {
         made = made.saturating_add(check_with_each_other(rt.alloc(), changes, *fault)?);
     }
-    // each of 17 by itself, and 124 pairs in both orders
+    // 17 changes alone, and 124 pairs in both orders
     same(made, 265, "changes made together")
 }
 
-// The least header with a feature name table that has no bytes. Its length ends at byte 111, and its
-// chunks begin at bytes 112, 160 and 208.
+// The minimal header with an empty feature name table. The table's length ends with byte 111, and its chunks
+// begin at bytes 112, 160 and 208.
 const NO_CHUNKS: Changes = "104=names 00";
 
-// Changes to it, a feature's field and its bit, and the name that the header has for it.
+// Changes of it, a feature's type and bit, and the feature's name in the header.
 type Named = (Changes, (FeatureType, u32), Option<&'static str>);
 
 const NAMED: &[Named] = rows! {
@@ -203,12 +204,12 @@ const NAMED: &[Named] = rows! {
     ("111=600000:a, 160=0000:b", DIRTY, Some("b")), ("111=600000:a, 160=0000:b", (Compatible, 0), None),
     ("111=600000:a, 160=0000:b", (Incompatible, 256), None),
     ("111=600000:a, 160=0000:b", (Incompatible, u32::MAX), None), ("111=320000:a", DIRTY, Some("")),
-    // each field has keys of its own, up to bit 255
+    // each feature type has keys of its own, up to bit 255
     (FIELDS, (Incompatible, 255), Some("i")), (FIELDS, (Compatible, 255), Some("c")),
     (FIELDS, (Autoclear, 255), Some("a")),
     // the first table that has the key decides
     (TABLES, DIRTY, Some("one")), (TABLES, (Autoclear, 1), Some("raw")), (TABLES, (Autoclear, 0), None),
-    // a chunk of another type is left aside
+    // a chunk of an unknown type is ignored
     ("111=330201:a, 160=0301:b", (Autoclear, 1), Some("a")), ("111=0103", DIRTY, None),
     ("111=31, 160=09", DIRTY, Some("")),
     // a name ends before its first zero byte, or with its chunk, even inside a character
@@ -217,7 +218,7 @@ const NAMED: &[Named] = rows! {
         Some("0123456789abcdefghijklmnopqrstuvwxyzABCDEFGHIJ")),
     ("111=320000:0123456789abcdefghijklmnopqrstuvwxyzABCDEFGHI, 159=c3a400", DIRTY,
         Some("0123456789abcdefghijklmnopqrstuvwxyzABCDEFGHI\u{fffd}")),
-    // what is no text is replaced
+    // bytes that aren't UTF-8 are replaced
     ("111=040000 c3a4", DIRTY, Some("\u{e4}")),
     ("111=080000 f0908057c328", DIRTY, Some("\u{fffd}W\u{fffd}(")),
     ("111=080000 eda08078c0af", DIRTY, Some("\u{fffd}\u{fffd}\u{fffd}x\u{fffd}\u{fffd}")),

@@ -1,14 +1,14 @@
-//! Headers, and the bytes that a write of each places, as changes to the least header.
+//! Headers, and the bytes that their writes place, as changes of the minimal header.
 
 use super::fixtures::Changes;
 use super::rich_header::RICH;
 use qcow2_testing::rows;
 
-/// A backing file's name, which is a text repeated that many times.
+/// A backing file's name: a text, and its number of repetitions.
 pub(crate) type Repeated = (&'static str, usize);
 
-/// A new header with a backing file, and what a write of it places: the names of features, where they fit,
-/// and what else differs from the least header.
+/// A new header with a backing file, and the bytes that its write places: the names of features, if they fit,
+/// and all other differences from the minimal header.
 #[derive(Clone, Copy)]
 pub(crate) struct NewHeader {
     pub(crate) name: &'static str,
@@ -39,14 +39,14 @@ pub(crate) const KNOWN: Changes = "104=6803f857 00000180, 112=0000:dirty, 160=00
     208=0002:external data file, 256=0003:extended compression type, 304=0004:extended L2 entries, \
     352=0100:lazy refcounts, 400=0200:persistent dirty bitmaps, 448=0201:raw external data file";
 
-/// What a write of a new header places with clusters of 65536 bytes, the backing file base.img of the format
-/// qcow2, and the data file data.raw.
+/// The bytes that a write places of a new header with clusters of 65536 bytes, the backing file base.img of
+/// the format qcow2, and the data file data.raw.
 pub(crate) const THREE_NAMES: Changes =
     "backing_file_offset=536, backing_file_size=8, cluster_bits=16, \
     incompatible_features=4, 496=format 05:qcow2, 512=data 08:data.raw, 536=:base.img";
 
-/// What is written of the header with all that a header can have: names of features in whole chunks, and the
-/// backing file's name after End.
+/// The written bytes of the header with everything that a header can have: names of features in whole chunks,
+/// and the backing file's name after End.
 pub(crate) const RICH_WRITTEN: Changes = "backing_file_offset=304, backing_file_size=6, \
     size=0x102030405060708, crypt_method=0x11121314, l1_size=0x21222324, \
     l1_table_offset=0x3132333435363a00, refcount_table_offset=0x4142434445464800, \
@@ -56,12 +56,12 @@ pub(crate) const RICH_WRITTEN: Changes = "backing_file_offset=304, backing_file_
     112=format 05:qcow2, 128=names 60 0000:new, 184=0100:lazy, 232=data 08:dät.raw, \
     248=0000000700000003:xyz, 264=format 05:qcow2, 280=data 08:dät.raw, 304=:ä.img";
 
-/// What is written of a header of version 2, in 85 bytes.
+/// The written bytes of a header of version 2, 85 in number.
 pub(crate) const OLDER_WRITTEN: Changes = "version=2, backing_file_offset=80, backing_file_size=5, \
     cluster_bits=16, 80=:a.img";
 
-/// A header that is loaded and written: its changes to the least one, those that a write of it places, and
-/// what it calls the first incompatible feature then.
+/// A header that is loaded and written: the changes of the minimal header before and after, and then its name
+/// of the first incompatible feature.
 #[derive(Clone, Copy)]
 pub(crate) struct Loaded {
     pub(crate) name: &'static str,
@@ -116,7 +116,7 @@ const EMPTY_TABLE: Changes =
 const EMPTY_TABLE_MORE: Changes =
     "104=names 00, backing_file_offset=119, backing_file_size=393, 119=61*393";
 
-// In no order, twice, with a type that isn't known, and cut.
+// Unordered names, one of them twice, one with an unknown type, and a truncated one.
 const MANY_NAMES: Changes =
     "104=names c4 0201:c, 160=0009:old, 208=0300:none, 256=0009:b, 304=00006100";
 
@@ -132,11 +132,11 @@ const TWO_LONG_TABLES: Changes =
     "backing_file_offset=152, backing_file_size=281, 104=names 03 0000:a, \
     123=07, 128=names 03 0107:b";
 
-/// How often `a` stands in a name, and U+FFFD after it.
+/// The number of `a` in a name, and of U+FFFD after them.
 pub(crate) type Name = (usize, usize);
 
-/// The bytes of a feature's name, what the feature is called when they are loaded, the bytes that are written
-/// then, and what it is called from the next load on. A feature name table has place for 46 bytes of a name.
+/// The bytes of a feature's name, the name once they are loaded, the bytes that are written then, and the
+/// name after further loads. A feature name table has room for 46 bytes of a name.
 #[derive(Clone, Copy, Debug)]
 pub(crate) struct Cut {
     pub(crate) loaded: Changes,
@@ -145,17 +145,17 @@ pub(crate) struct Cut {
     pub(crate) called_then: Name,
 }
 
-/// Names that are cut when they are written.
+/// Names that a write cuts.
 pub(crate) const CUT: &[Cut] = rows! { Cut:
     // 138 bytes of text
     { loaded: "114=ff*46", called: (0, 46), written: "114=efbfbd*15 ef", called_then: (0, 16) },
-    // 48, 47 and 46, of which 46 are written
+    // 48, 47 and 46 bytes, of which 46 are written
     { loaded: "114=61*45 ff", called: (45, 1), written: "114=61*45 ef", called_then: (45, 1) },
     { loaded: "114=61*44 ff", called: (44, 1), written: "114=61*44 efbf", called_then: (44, 1) },
     { loaded: "114=61*43 ff", called: (43, 1), written: "114=61*43 efbfbd", called_then: (43, 1) },
-    // a character that was cut, and text of 46 bytes
+    // a truncated character, and text of 46 bytes
     { loaded: "114=61*45 c3", called: (45, 1), written: "114=61*45 ef", called_then: (45, 1) },
     { loaded: "114=61*46", called: (46, 0), written: "114=61*46", called_then: (46, 0) },
-    // what stands after a zero byte goes
+    // bytes after a zero byte are dropped
     { loaded: "114=610062", called: (1, 0), written: "114=61", called_then: (1, 0) },
 };

@@ -1,5 +1,4 @@
-//! Taking over what changed in another header of the same image, and which field is reported where they
-//! differ.
+//! Updates of a header from another one of the same image, and the field that a refused update reports.
 
 use super::fixtures::{Changes, load_with};
 use qcow2_base::Fault;
@@ -13,32 +12,32 @@ use qcow2_testing::{each, printed, rows, same};
 use std::alloc::Global;
 use std::test::Fail;
 
-// A disk of 32768 bytes, whose L1 table has one entry at 512. The backing file's name stands at two places.
+// A disk of 32768 bytes with an L1 table of one entry at 0x200. The backing file's name is at two offsets.
 const SMALL: Changes = "backing_file_offset=360, backing_file_size=2, size=0x8000, l1_size=1, \
     l1_table_offset=0x200, 360=:ab, 368=:ab";
 
-// One of 65536 bytes, whose L1 table has two entries there.
+// A disk of 65536 bytes with an L1 table of two entries at 0x200.
 const GROWN: Changes = "backing_file_offset=360, backing_file_size=2, size=0x10000, l1_size=2, \
     l1_table_offset=0x200, 360=:ab, 368=:ab";
 
-// Another size, and other tables in all their bytes.
+// Another size and other tables, different in all their bytes.
 const MOVED: Changes =
     "size=0x102030405060708, l1_size=0x21222324, l1_table_offset=0x3132333435363a00, \
     refcount_table_offset=0x4142434445464800, refcount_table_clusters=0x51525354";
 
-// Changes to the least header that leave two that agree in all but what is taken over.
+// Changes of the minimal header that make two headers, which agree in all but the updated fields.
 const AGREEING: &[(Changes, Changes)] = rows! {
     // a disk of 32768 bytes becomes one of 65536, its L1 table one of 2 entries
     ("size=0x8000, l1_size=1, l1_table_offset=0x200", "size=0x10000, l1_size=2, l1_table_offset=0x200"),
     (SMALL, SMALL), (SMALL, GROWN), ("", MOVED), (MOVED, ""), ("", "size=0x100000000000000"),
     ("", "l1_size=0x1000000"), ("", "l1_table_offset=0x200"), ("", "refcount_table_offset=0x200"),
     ("", "refcount_table_clusters=0x1000000"),
-    // what no header says: bytes after End, padding, and in version 2 those after byte 72
+    // bytes that no header keeps: those after End, padding, and in version 2 those after byte 72
     ("200=01", "200=02, size=1"), ("104=format 01:a, 113=01", "104=format 01:a, 113=02"),
     ("version=2", "version=2, incompatible_features=4, refcount_order=9"),
-    // the same name of a data file, and the same extension of a type that isn't known
+    // the same data file name, and the same extension of an unknown type
     ("104=data 01:a, 123=0700000001:b", "104=data 01:a, 123=0700000001:b"),
-    // a feature name table in another order, with a name that is replaced, and with one of no feature
+    // feature name tables: another order, a replaced name, and a name of no feature
     ("104=names 36 0000:d, 160=0100:lazy", "104=names 33 0100:lazy, 160=0000:d"),
     ("104=names 36 0100:old, 160=0100:lazy", FEATURE), ("104=names 36 0100:lazy, 160=0300:none", FEATURE),
 };
@@ -61,8 +60,8 @@ fn a_header_becomes_one_that_agrees_with_it(rt: HostRuntime) -> Result<(), Fail>
     each(rt.alloc(), AGREEING, check_becomes)
 }
 
-// Changes to headers of these disks that leave two which differ in a field, and in none before it. The tables
-// move with the cluster size, so that they begin with a cluster.
+// Changes of headers of these disks that make two headers, and the first field that differs. The tables move
+// with the cluster size, so that they begin with a cluster.
 type Differing = (Changes, Changes, Field);
 
 const DIFFERING: &[Differing] = rows! {
@@ -77,7 +76,7 @@ const DIFFERING: &[Differing] = rows! {
     ("", "autoclear_features=1, 107=07", Autoclear), ("", "refcount_order=3, 107=07", RefcountOrder),
     ("", "header_length=112, 107=07", UnknownFields), ("", "361=:c, 107=07", BackingName),
     ("", "107=07", Extensions),
-    // empty names at two places, and a length where no name is
+    // empty names at two offsets, and a length without a name
     ("backing_file_offset=496, backing_file_size=0", "backing_file_offset=504, backing_file_size=0",
         BackingOffset),
     ("backing_file_offset=0, backing_file_size=1", "backing_file_offset=0, backing_file_size=0x1000001",
@@ -85,14 +84,14 @@ const DIFFERING: &[Differing] = rows! {
     // unknown fields of one length
     ("header_length=112, 104=01", "header_length=112, 104=02", UnknownFields),
     ("header_length=112", "header_length=112, 111=01", UnknownFields),
-    // extensions in another order, one more, and none
+    // extensions: another order, one more, and none
     ("104=format 01:a, 120=data 01:b", "104=data 01:b, 120=format 01:a", Extensions),
     ("104=data 01:b", "104=data 01:b, 120=data 01:b", Extensions), ("", "104=data 00", Extensions),
-    // another name, a longer one, and another type
+    // extensions: another name, a longer one, and another type
     ("104=format 03:raw", "104=format 03:row", Extensions),
     ("104=data 03:raw", "104=data 04:raw2", Extensions),
     ("104=data 03:raw", "104=format 03:raw", Extensions),
-    // extensions of no known type: another type, another byte, another length
+    // extensions of unknown types: another type, another byte, another length
     ("107=0700000001:a", "107=0800000001:a", Extensions),
     ("107=0700000001:a", "107=0700000001:b", Extensions), ("107=0700000001", "107=0700000002", Extensions),
     // feature name tables: another name, bit or field, a longer name, one more, and none
@@ -117,7 +116,7 @@ fn check_refused(
     same(found, (Err(Fault::FieldChanged(field)), before), field)
 }
 
-// Fails unless that is so whichever of two headers is updated.
+// Fails unless updates of either header by the other are refused for this field.
 fn check_differing(alloc: Global, (here, there, field): Differing) -> Result<(), Fail> {
     let mut header = load_with(alloc, SMALL, here)?;
     let mut other = load_with(alloc, GROWN, there)?;

@@ -1,4 +1,4 @@
-//! What a write of a header places, and what it leaves as it was.
+//! Writes of headers: the bytes that they place, and those that they leave.
 
 use super::fixtures::{Changes, OLDER, OLDER_FILLED, filled_with, least_with, load_with};
 use super::header_texts::{
@@ -12,8 +12,8 @@ use qcow2_testing::{FailingStorage, StorageCall, each, filled_image, printed, sa
 use std::alloc::{AllocError, Global};
 use std::test::Fail;
 
-// Fails unless a write of the header over an image of 300 bytes is one call, which places the text and leaves
-// what is after it.
+// Fails unless a write of the header over an image of 300 bytes is one storage call, which places the text
+// and leaves the bytes after it.
 fn check_places(
     alloc: Global,
     header: &mut Header,
@@ -32,8 +32,8 @@ fn check_places(
     same_bytes(image.inner.bytes(), expected.bytes(), row)
 }
 
-// Fails unless that is so, and the text is loaded as the header, which is written again as it is; and unless
-// the first incompatible feature is called so after each of both writes.
+// Checks the same, that the text loads as the same header, whose write places it again, and the name of the
+// first incompatible feature after each of the two writes.
 fn check_round_trip(
     alloc: Global,
     header: &mut Header,
@@ -108,7 +108,7 @@ fn a_header_of_version_2_ends_with_its_name(rt: HostRuntime) -> Result<(), Fail>
     Ok(())
 }
 
-// A feature name table that has one name of 46 bytes, whose type and bit are 0.
+// A feature name table with one name of 46 bytes, whose type and bit are 0.
 const FULL_NAME: Changes = "104=names 30, 167=00";
 
 fn name_of(alloc: Global, name: Name) -> Result<String, AllocError> {
@@ -137,7 +137,7 @@ fn a_feature_name_that_is_cut_is_the_same_from_the_second_load_on(
     each(rt.alloc(), CUT, check_cut_row)
 }
 
-// Fails unless a write is refused by this fault without any call, and changes nothing.
+// Fails unless a write is refused by this fault without a storage call, and changes nothing.
 fn check_refusal(alloc: Global, header: &mut Header, fault: Fault) -> Result<(), Fail> {
     let before = printed(alloc, header)?;
     let mut image = FailingStorage::new(alloc, filled_image(alloc, 2048)?);
@@ -146,7 +146,7 @@ fn check_refusal(alloc: Global, header: &mut Header, fault: Fault) -> Result<(),
     same(found, (Err(fault), 0, before), fault)
 }
 
-// New headers by their cluster bits and the length of the name, and the fault of a write.
+// New headers, given by their cluster bits and the length of the name, and the fault of a write.
 const LONG_NAMES: &[(u32, usize, Fault)] = &[
     (9, 401, Fault::HeaderTooLong),
     (9, 1023, Fault::HeaderTooLong),
@@ -154,8 +154,9 @@ const LONG_NAMES: &[(u32, usize, Fault)] = &[
     (16, 1024, Fault::NameTooLong),
 ];
 
-// Loaded headers that are too long: with 400 unknown bytes and the name FI, and with 384 unknown bytes, the
-// name of a feature, and a backing file's name of 48 zero bytes; in version 2 with a name of 433 bytes.
+// Loaded headers that are too long: one with 400 unknown bytes and the name FI; one with 384 unknown bytes,
+// the name of a feature, and a backing file's name of 48 zero bytes; and one of version 2 with a name of 433
+// bytes.
 const TOO_LONG: &[Changes] = &[
     "header_length=504, backing_file_offset=1, backing_file_size=2",
     "header_length=488, 488=names 02, backing_file_offset=24, backing_file_size=48",

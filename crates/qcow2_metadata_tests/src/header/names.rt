@@ -1,11 +1,11 @@
-//! Names of headers: those that one is made with, and those that one has.
+//! Names in headers, new and loaded.
 
 use qcow2_base::Fault;
 use qcow2_calls::new_header;
 use qcow2_metadata::{FeatureType, Header};
 use std::alloc::Global;
 
-/// What a header says of names: the backing file's, its format and the data file's, and whether guest data is
+/// The names in a header: the backing file's, its format and the data file's; and whether guest data is
 /// external.
 #[derive(Clone, Copy, Debug, PartialEq, Eq)]
 pub(crate) struct Names<'a> {
@@ -22,7 +22,7 @@ pub(crate) const NO_NAMES: Names<'static> = Names {
     external: false,
 };
 
-/// A new header with these names.
+/// Returns a new header with these names.
 pub(crate) fn header_with_names(
     alloc: Global,
     bits: u32,
@@ -39,7 +39,7 @@ pub(crate) fn header_with_names(
     )
 }
 
-/// What a load returns: the names that the header has, or the fault.
+/// Returns the names of a loaded header, or the fault.
 pub(crate) fn loaded_names(loaded: &Result<Header, Fault>) -> Result<Names<'_>, Fault> {
     match loaded {
         Ok(header) => Ok(names_of(header)),
@@ -47,7 +47,7 @@ pub(crate) fn loaded_names(loaded: &Result<Header, Fault>) -> Result<Names<'_>, 
     }
 }
 
-/// The names that a header has.
+/// Returns the names in a header.
 pub(crate) fn names_of(header: &Header) -> Names<'_> {
     Names {
         backing: header.backing_filename().map(|name| name.as_str()),
@@ -57,14 +57,14 @@ pub(crate) fn names_of(header: &Header) -> Names<'_> {
     }
 }
 
-/// What a header calls a feature.
+/// Returns a header's name of a feature.
 pub(crate) fn called(header: &Header, feature_type: FeatureType, bit: u32) -> Option<&str> {
     header
         .feature_name(feature_type, bit)
         .map(|name| name.as_str())
 }
 
-/// What a header calls the first incompatible feature.
+/// Returns a header's name of the first incompatible feature.
 pub(crate) fn dirty(header: &Header) -> Option<&str> {
     called(header, FeatureType::Incompatible, 0)
 }

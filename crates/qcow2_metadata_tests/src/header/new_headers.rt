@@ -1,4 +1,4 @@
-//! What headers say of an image.
+//! Sizes, tables, names and versions of new and loaded headers.
 
 use super::fixtures::{Changes, OLDER, load_with};
 use super::names::{NO_NAMES, Names, called, header_with_names, names_of};
@@ -9,7 +9,7 @@ use qcow2_testing::{all_same, each, rows, same};
 use std::alloc::Global;
 use std::test::Fail;
 
-// The sizes that a header says.
+// The sizes that a header implies.
 #[derive(Clone, Copy, Debug)]
 struct Sizes {
     cluster_bits: u32,
@@ -31,7 +31,7 @@ const SIZES: &[Sizes] = rows! { Sizes:
         rb_entries: 16777216, rb_bits: 24 },
 };
 
-// A new header has these sizes, no disk and no tables.
+// Checks that a new header has these sizes, no disk and no tables.
 fn check_sizes(alloc: Global, row: Sizes) -> Result<(), Fail> {
     let header = header_with_names(alloc, row.cluster_bits, row.refcount_order, NO_NAMES)?;
     all_same! {
@@ -78,7 +78,7 @@ const RICH_NAMES: Names<'static> = Names {
     external: true,
 };
 
-// Names that a new header is made with, and has then. Data is external where a data file is named.
+// Names that a new header is made with, and has. Data is external if a data file is named.
 const NAMES: &[Names<'static>] = rows! {
     NO_NAMES,
     Names { backing: Some("base.img"), ..NO_NAMES },
@@ -102,7 +102,7 @@ fn a_new_header_has_the_names_that_it_is_made_with(rt: HostRuntime) -> Result<()
     each(rt.alloc(), NAMES, check_names)
 }
 
-// A feature's field and its bit, and what a new header calls it.
+// A feature's type and bit, and its name in a new header.
 const FEATURES: &[(FeatureType, u32, Option<&'static str>)] = rows! {
     (Incompatible, 0, Some("dirty")), (Incompatible, 1, Some("corrupt")),
     (Incompatible, 2, Some("external data file")), (Incompatible, 3, Some("extended compression type")),
@@ -122,7 +122,7 @@ fn a_new_header_has_the_names_of_eight_features(rt: HostRuntime) -> Result<(), F
     Ok(())
 }
 
-// Changes to the least header, its version, and what it returns where another one is needed.
+// Changes of the minimal header, its version, and the result of requiring a version.
 #[derive(Clone, Copy, Debug)]
 struct Version {
     changes: Changes,

@@ -1,5 +1,5 @@
-//! What a call of a header leaves where the storage refuses one of its calls, each in turn: the image and the
-//! header as they were. The same call does all then.
+//! Calls of headers over a storage that fails each call in turn: the header and the image stay. The same call
+//! succeeds afterwards.
 
 use super::fixtures::{Changes, change, load_with};
 use qcow2_base::{Fault, MemStorage, Storage};
@@ -28,8 +28,8 @@ use Call::{
     WriteSize,
 };
 
-// A call of a header, which has these changes to the least one; an image of `len` bytes 0xa5 with changes
-// before the call, and further ones after it; and how many calls of the storage it makes.
+// A call of a header with these changes; an image of `len` bytes 0xa5 with changes before the call, and
+// further ones after it; and the number of its storage calls.
 #[derive(Clone, Copy)]
 struct Run {
     name: &'static str,
@@ -78,8 +78,8 @@ const AUTOCLEAR: Changes =
 const AUTOCLEAR_AT_END: Changes = "0=00*104, magic=0x514649fb, version=3, cluster_bits=9, \
     autoclear_features=1, refcount_order=4, header_length=104";
 
-// A feature name of one byte, and then an extension whose data is zero. A name that is written takes more
-// place, and then doesn't fit.
+// A feature name of one byte, and then an extension of zeros. A written name takes more room, and then
+// doesn't fit.
 const NAMED: Changes = "104=names 03 0000:d, 120=0000000700000178, 511=00";
 
 const AUTOCLEAR_NAMED: Changes = "0=00*512, magic=0x514649fb, version=3, cluster_bits=9, \
@@ -119,7 +119,7 @@ fn make<S: Storage>(
     Ok(())
 }
 
-// Fails unless the call is refused, and header and image stay.
+// Fails unless the call is refused, and leaves the header and the image.
 fn check_refused(
     alloc: Global,
     run: Run,
@@ -134,7 +134,7 @@ fn check_refused(
     same_bytes(image.inner.bytes(), expected.bytes(), run.name)
 }
 
-// Fails unless the call does all, and asks the storage as often as it is to.
+// Fails unless the call succeeds with its number of storage calls.
 fn check_done(
     alloc: Global,
     run: Run,

@@ -1,4 +1,4 @@
-//! A header with all that a header can have, whole and cut.
+//! A header with everything that a header can have, whole and truncated.
 
 use super::fixtures::{Changes, least_with, refusal};
 use qcow2_base::{Fault, MemStorage};
@@ -6,8 +6,8 @@ use qcow2_testing::{row_error, rows, same};
 use std::alloc::Global;
 use std::test::Fail;
 
-/// Clusters of 512 bytes. The format and the data file stand there twice, and of the feature name table
-/// the last chunk has one byte and no known type.
+/// A header with clusters of 512 bytes. It has the format and the data file twice, and the last chunk of its
+/// feature name table has one byte and an unknown type.
 pub(crate) const RICH: Changes =
     "backing_file_offset=360, backing_file_size=6, size=0x102030405060708, \
     crypt_method=0x11121314, l1_size=0x21222324, l1_table_offset=0x3132333435363a00, \
@@ -18,14 +18,14 @@ pub(crate) const RICH: Changes =
     232=0000:new, 280=ff, 288=data 08:dät.raw, 304=00000007 00000003:xyz, 320=format 05:qcow2, \
     336=data 08:dät.raw, 360=:ä.img";
 
-// 1536 bytes: a header with a size and an L1 table, and an entry in each of two tables.
+// An image of 1536 bytes: a header with a size and an L1 table, and an entry in each of two tables.
 const TWO_TABLES: Changes = "size=0x8000, l1_size=1, l1_table_offset=0x200, 512=8000000000000400, \
     1048=8000000000000a00, 1535=00";
 
-// Where each range of places ends, and the fault of a load of the bytes before a place in it.
+// The end of each range of lengths, and the fault of a load of an image of a length in it.
 type Ranges = &'static [(usize, Option<Fault>)];
 
-// What a load returns of the first bytes of an image, by how many they are.
+// The results of loads of the first bytes of an image, by their number.
 const CUT_TABLES: Ranges = rows! {
     (4, Some(Fault::NotQcow2)), (8, Some(Fault::Version)), (24, Some(Fault::ClusterSize)),
     (104, Some(Fault::HeaderShort)), (1536, None),
@@ -34,11 +34,11 @@ const CUT_TABLES: Ranges = rows! {
 const CUT_RICH: Ranges = rows! {
     (4, Some(Fault::NotQcow2)), (8, Some(Fault::Version)), (24, Some(Fault::ClusterSize)),
     (104, Some(Fault::HeaderShort)),
-    // extensions are missing from some place on
+    // later extensions are missing
     (136, None),
-    // the last byte of the feature name table is missing, so that it is 0, which is a type
+    // the last byte of the feature name table is missing and reads as 0, which is a feature type
     (281, Some(Fault::FeatureNameCut)), (298, None),
-    // the data file's name is cut, first inside a character
+    // the data file's name is truncated, first inside a character
     (299, Some(Fault::ExtensionText)), (324, None),
     // the second format, and the data file's second name, also inside a character
     (333, Some(Fault::FormatConflict)), (340, None), (346, Some(Fault::DataFileConflict)),
@@ -47,7 +47,7 @@ const CUT_RICH: Ranges = rows! {
     (362, Some(Fault::BackingNameText)), (366, None),
 };
 
-// The fault of the range that a place is in.
+// Returns the fault of the range that a length is in.
 fn fault_at(ranges: Ranges, place: usize) -> Result<Option<Fault>, Fail> {
     for (end, fault) in ranges {
         if place < *end {
@@ -57,13 +57,13 @@ fn fault_at(ranges: Ranges, place: usize) -> Result<Option<Fault>, Fail> {
     Err(row_error(place))
 }
 
-// The fault of a load of the first bytes of an image, if it is refused.
+// Returns the fault of a load of the first bytes of an image, if it is refused.
 fn refusal_of(alloc: Global, bytes: &[u8]) -> Result<Option<Fault>, Fault> {
     let mut image = MemStorage::new(Vec::from_slice(alloc, bytes)?);
     Ok(refusal(alloc, &mut image))
 }
 
-// Loads the least header with these changes, cut at each place.
+// Loads the minimal header with these changes, truncated to each length.
 fn check_cuts(alloc: Global, changes: Changes, ranges: Ranges) -> Result<(), Fail> {
     let image = least_with(alloc, changes, "")?;
     let bytes = image.bytes();

@@ -1,4 +1,4 @@
-//! Loads of an image that is to be changed: autoclear features are cleared, by a write of the whole header.
+//! Loads for writing, which clear autoclear features by a write of the whole header.
 
 use super::fixtures::{Changes, OLDER, OLDER_FILLED, filled_with, least_with};
 use super::header_texts::RICH_WRITTEN;
@@ -15,18 +15,18 @@ use std::alloc::Global;
 use std::fs;
 use std::test::Fail;
 
-// An image of 2048 bytes that begins with the least header and these changes.
+// Returns an image of 2048 bytes that begins with the minimal header and these changes.
 fn image_with(alloc: Global, changes: Changes) -> Result<FailingStorage<MemStorage>, Fail> {
     let text = least_with(alloc, changes, "")?;
     let image = filled_with(alloc, 2048, text.bytes())?;
     Ok(FailingStorage::new(alloc, image))
 }
 
-// What a load returns: the names, or the fault.
+// The result of a load: the names, or the fault.
 type Loaded = Result<Names<'static>, Fault>;
 
-// How a header is come by whose image may be written: by a load for writing, or by one for reading and a call
-// for writing after it.
+// A way to a writable header: by a load for writing, or by a load for reading and a call that makes the
+// header writable.
 #[derive(Clone, Copy, Debug)]
 enum Way {
     AtOnce,
@@ -53,13 +53,13 @@ fn check_load<S: Storage>(
     same(loaded_names(&loaded), expected, (row, way))
 }
 
-// Autoclear features and other changes to the least header, the text that is written, and what a load for
-// writing returns.
+// Autoclear features and other changes of the minimal header, the written text, and the result of a load for
+// writing.
 type Cleared = (Changes, Changes, Loaded);
 
 const CLEARED: &[Cleared] = rows! {
     ("autoclear_features=1, 111=00", "111=00", Ok(NO_NAMES)),
-    // names of features that take more place when they are written, and then don't fit
+    // names of features that take more room when written, and then don't fit
     (NAMED, "104=0000000700000178, 495=00", Ok(NO_NAMES)),
     // the highest feature, and all
     ("autoclear_features=0x8000000000000000, 511=00", "111=00", Ok(NO_NAMES)),
@@ -87,14 +87,14 @@ const NAMED: Changes = "autoclear_features=1, 104=names 03 0000:d, 120=000000070
 const WITHIN_MAGIC: Changes =
     "autoclear_features=1, backing_file_offset=1, backing_file_size=2, 111=00";
 
-// Whether there is no write among the calls.
+// Returns whether all calls are reads.
 fn are_reads(calls: &[StorageCall]) -> bool {
     calls
         .iter()
         .all(|call| matches!(call, StorageCall::Read { .. }))
 }
 
-// Fails unless the calls are two that read, and then one that writes `len` bytes.
+// Fails unless the calls are two reads, and then a write of `len` bytes.
 fn check_two_reads_and_a_write(
     calls: &[StorageCall],
     len: usize,
@@ -135,14 +135,14 @@ fn a_load_for_writing_clears_autoclear_features_by_one_write(rt: HostRuntime) ->
     each(rt.alloc(), CLEARED, check_cleared)
 }
 
-// Changes to the least header, and what a load for writing returns, which writes nothing.
+// Changes of the minimal header, and the result of a load for writing, which writes nothing.
 const LEFT: &[(Changes, Loaded)] = rows! {
     // other features, and a header that can't be written
     ("compatible_features=0xffffffffffffffff, 111=00", Ok(NO_NAMES)),
     ("backing_file_offset=1, backing_file_size=2, header_length=504, 511=00", FI),
-    // version 2 has no features, whatever stands in their place
+    // version 2 has no features, whatever their bytes are
     (OLDER, A_IMG), (OLDER_FILLED, A_IMG),
-    // what is refused, for the header or for its length
+    // refused loads, for the header or for its length
     ("incompatible_features=2, autoclear_features=1, 111=00", Err(Fault::Incompatible(2))),
     ("backing_file_offset=1, backing_file_size=2, autoclear_features=1, header_length=504, 511=00",
         Err(Fault::HeaderTooLong)),
@@ -169,13 +169,14 @@ fn open(rt: &HostRuntime, path: &str) -> Result<FileStorage, Fault> {
     Ok(FileStorage::open(rt, path, true)?)
 }
 
-// What a header prints that a load of the image for writing returns.
+// Returns the printed header that a load of the image for writing returns.
 fn printed_load<S: Storage>(alloc: Global, image: &mut S) -> Result<String, Fault> {
     let header = load_header(alloc, image, true)?;
     Ok(printed(alloc, &header)?)
 }
 
-// Fails unless a load of a file for writing places the text in it, and returns a header without the features.
+// Fails unless a load of a file for writing places the text in it, and returns a header without autoclear
+// features.
 fn check_clears_file(rt: &HostRuntime, path: &str, text: &[u8]) -> Result<(), Fail> {
     let mut expected = MemStorage::new(fs::read(rt, path)?);
     put_bytes(&mut expected, 0, text)?;

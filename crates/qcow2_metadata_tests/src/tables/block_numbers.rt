@@ -1,4 +1,4 @@
-//! The numbers that blocks keep in memory: one for each counter, in the smallest integers that hold it.
+//! The refcounts of blocks in memory, in the smallest integers that hold them.
 
 use super::blocks::{load, new_cleared};
 use qcow2_base::{Fault, HostCluster, MemStorage};
@@ -7,14 +7,14 @@ use qcow2_testing::{each, printed, rows, same};
 use std::alloc::{AllocError, Global};
 use std::test::Fail;
 
-// Numbers that stand first as they print, and how many.
+// The printed first refcounts, and their number.
 type First = (&'static str, usize);
 
-// The cluster that a block begins with, and whether it was changed.
+// A block's cluster, and whether the block is modified.
 type Place = (Option<HostCluster>, bool);
 
-// How many counters a block of 512 bytes has, and in which integers it keeps their numbers; the first bytes
-// of a block, and the first of these numbers.
+// The number of refcounts in a block of 512 bytes, and the type of integers that hold them; the first bytes
+// of a block, and its first refcounts.
 #[derive(Clone, Copy, Debug)]
 struct Kept {
     order: u32,
@@ -34,8 +34,8 @@ const KEPT: &[Kept] = rows! { Kept:
     { order: 6, counters: 64, integers: "U64", bytes: &[0xff; 8], first: ("18446744073709551615", 1) },
 };
 
-// How a block prints that keeps these numbers first, 0 after them, and nothing else: where it stands, and
-// whether it was changed.
+// Returns the printed form of a block with these first refcounts, and 0 in all others; with its cluster, and
+// whether it is modified.
 fn shown(
     alloc: Global,
     row: Kept,
@@ -55,14 +55,14 @@ fn shown(
     Ok(text)
 }
 
-// Fails unless the block prints so.
+// Fails unless the block prints that way.
 fn check_kept(block: &RefBlock, row: Kept, first: First, place: Place) -> Result<(), Fail> {
     let expected = shown(block.allocator(), row, first, place)?;
     let found = printed(block.allocator(), block)?;
     same(found.as_str(), expected.as_str(), row.order)
 }
 
-// The block of an image of these bytes, and zeros after them.
+// Loads the block of an image of these bytes, and zeros after them.
 fn loaded(alloc: Global, order: u32, bytes: &[u8]) -> Result<RefBlock, Fault> {
     let mut image = MemStorage::new(Vec::from_slice(alloc, bytes)?);
     load(alloc, &mut image, (9, order), 0)

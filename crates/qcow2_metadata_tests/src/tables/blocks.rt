@@ -1,11 +1,11 @@
-//! Refcount blocks to test with, and what they say.
+//! Fixtures of refcount blocks.
 
 use qcow2_base::{Fault, HostCluster, Storage};
 use qcow2_calls::{header_of, load_block, new_block, set_block_cluster};
 use qcow2_metadata::RefBlock;
 use std::alloc::Global;
 
-/// What a load of a block returns, by cluster bits and refcount order of the image.
+/// Loads a block, of an image with these cluster bits and this refcount order.
 pub(crate) fn load<S: Storage>(
     alloc: Global,
     image: &mut S,
@@ -16,12 +16,12 @@ pub(crate) fn load<S: Storage>(
     load_block(alloc, image, &header, HostCluster(cluster))
 }
 
-/// A block of 512 bytes in which no cluster has a reference.
+/// Returns a new block of 512 bytes, with refcount 0 for each cluster.
 pub(crate) fn new_cleared(alloc: Global, order: u32) -> Result<RefBlock, Fault> {
     new_block(alloc, &header_of(alloc, 9, order, false)?)
 }
 
-/// Gives the block a cluster, and sets or clears its flag. Fails where the cluster's offset doesn't fit
+/// Sets the block's cluster, and sets or clears its modified flag. Fails if the cluster's offset doesn't fit
 /// 64 bits.
 pub(crate) fn place(block: &mut RefBlock, cluster: u64, modified: bool) -> Result<(), Fault> {
     set_block_cluster(block, HostCluster(cluster))?;
@@ -31,7 +31,7 @@ pub(crate) fn place(block: &mut RefBlock, cluster: u64, modified: bool) -> Resul
     Ok(())
 }
 
-/// The number of references that a counter holds, and whether it holds none.
+/// Returns a refcount, and whether it is 0.
 pub(crate) fn counter(block: &RefBlock, index: usize) -> Option<(u64, bool)> {
     if index >= block.entries() {
         return None;
@@ -39,7 +39,7 @@ pub(crate) fn counter(block: &RefBlock, index: usize) -> Option<(u64, bool)> {
     Some((block.get(index), block.is_zero(index)))
 }
 
-/// What a block says of its number of counters, its cluster and its flag.
+/// Returns a block's number of refcounts, its cluster, and whether it is modified.
 pub(crate) fn told(block: &RefBlock) -> (usize, Option<HostCluster>, bool) {
     (block.entries(), block.get_cluster(), block.is_modified())
 }

@@ -1,4 +1,4 @@
-//! Blocks of which those pieces alone are written that the image doesn't have.
+//! Writes of only those pieces of a block that differ from the image.
 
 use super::blocks::load;
 use super::refcount_blocks::pattern;
@@ -12,8 +12,8 @@ use std::test::Fail;
 
 const PIECE: usize = 4096;
 
-// A block of cluster 1, of 64 KiB: its refcount order, a counter's index, a number that it doesn't have in
-// the pattern, and the piece that has it.
+// A block of 64 KiB in cluster 1: its refcount order, the index of a refcount, a value that differs from the
+// pattern, and the piece that has it.
 #[derive(Clone, Copy, Debug)]
 struct Changed {
     order: u32,
@@ -29,12 +29,12 @@ const CHANGED: &[Changed] = rows! { Changed:
     { order: 6, index: 512, counter: 0xff, piece: 1 },
 };
 
-// The image of the pattern, of two clusters.
+// Returns an image of two clusters of the pattern.
 fn image(alloc: Global) -> Result<FailingStorage<MemStorage>, Fail> {
     Ok(recorded(alloc, pattern(alloc, 131072)?))
 }
 
-// The block of cluster 1 with the counter changed.
+// Returns the block of cluster 1 with the refcount changed.
 fn changed_block(alloc: Global, image: &mut MemStorage, row: Changed) -> Result<RefBlock, Fail> {
     let mut block = load(alloc, image, (16, row.order), 1)?;
     set_counter(&mut block, row.index, row.counter)?;
@@ -45,7 +45,8 @@ fn write(block: &mut RefBlock, image: &mut FailingStorage<MemStorage>) -> Result
     write_block_changes(block, image, HostCluster(1))
 }
 
-// The call that comes after some others: each piece is read, and just this one is written after that.
+// Returns the storage call at a position: each piece is read, and only the changed one is written right after
+// its read.
 fn call_at(place: usize, row: Changed) -> StorageCall {
     let is_write = place.checked_sub(1) == Some(row.piece);
     let piece = if place > row.piece { place - 1 } else { place };
@@ -88,8 +89,8 @@ fn only_a_changed_piece_is_written(rt: HostRuntime) -> Result<(), Fail> {
     each(rt.alloc(), CHANGED, check_changed)
 }
 
-// Fails unless the call that comes after some others is refused, with no byte changed before the piece is
-// written, and the same call is done then.
+// Fails unless the write is refused at the storage call after the first `passes`, with no byte changed before
+// the piece is written, and succeeds when repeated.
 fn check_refused(alloc: Global, row: Changed, passes: u64) -> Result<(), Fail> {
     let mut image = image(alloc)?;
     let mut block = changed_block(alloc, &mut image.inner, row)?;

@@ -1,4 +1,4 @@
-//! Which numbers are entries of tables, and what they mean.
+//! Numbers as entries of tables, and their meaning.
 
 use super::fixtures::{COPIED, DISK, Disk, EXTERNAL, header_with};
 use super::l2_mapping::Reads::{Backing, Compressed, Data, Zeros};
@@ -24,7 +24,7 @@ const RESERVED: Option<Fault> = Some(Fault::EntryReserved);
 
 const UNALIGNED: Option<Fault> = Some(Fault::EntryUnaligned);
 
-// A number, and why it is no entry of this kind, if it is none.
+// A number, and the fault that refuses it as an entry of this kind, if any.
 #[derive(Clone, Copy, Debug)]
 struct Number {
     kind: Kind,
@@ -49,13 +49,13 @@ const NUMBERS: &[Number] = rows! { Number:
     { kind: L2, cluster_bits: 9, number: 0xc000_0000_0000_0000, fault: RESERVED },
     { kind: L2, cluster_bits: 16, number: 0x200, fault: UNALIGNED },
     { kind: L2, cluster_bits: 16, number: 0x202, fault: RESERVED },
-    // the longest compressed data, whose offset may end at 2^56 from 14 cluster bits on
+    // the longest compressed data, which from 14 cluster bits on may end at 2^56
     { kind: L2, cluster_bits: 13, number: 0x7eff_ffff_ffff_ffff, fault: None },
     { kind: L2, cluster_bits: 13, number: 0x7fff_ffff_ffff_ffff, fault: RESERVED },
     { kind: L2, cluster_bits: 14, number: 0x7fff_ffff_ffff_ffff, fault: None },
 };
 
-// Fails unless the number is no entry by this fault, or is the number of an entry.
+// Fails unless the number is refused by its fault, or becomes an entry with that number.
 fn check_entry<E: TableEntry + Drop>(header: &Header, row: Number) -> Result<(), Fail> {
     let is_valid = E::is_lawful(row.number, header);
     same(is_valid, row.fault.is_none(), row)?;
@@ -96,8 +96,8 @@ fn entries_tell_where_l2_tables_and_blocks_lie(rt: HostRuntime) -> Result<(), Fa
     }
 }
 
-/// An entry, the clusters that it refers to as the first and how many, if any, and what guest cluster 7 reads
-/// as by it.
+/// An entry, the first cluster that it refers to and the number of such clusters, if any, and the mapping of
+/// guest cluster 7 by it.
 #[derive(Clone, Copy, Debug)]
 pub(crate) struct Meaning {
     pub(crate) disk: Disk,
@@ -132,7 +132,7 @@ pub(crate) const MEANINGS: &[Meaning] = rows! { Meaning:
         clusters: Some((268435455, 3)), reads: Compressed(0x1_ffff_ffff_ffff, 4193793) },
 };
 
-// The last cluster of all images.
+// The largest host cluster of any image.
 const LAST: u64 = (1 << 47) - 1;
 
 // Fails unless the entry has this meaning.
@@ -154,7 +154,7 @@ fn an_entry_reads_as_its_bits_and_refers_to_its_clusters(rt: HostRuntime) -> Res
     each(rt.alloc(), MEANINGS, check_meaning)
 }
 
-// An entry, what its bits say, and its number without bit 63.
+// An entry, the meaning of its bits, and its number without bit 63.
 #[derive(Clone, Copy, Debug)]
 struct Bits {
     number: u64,

@@ -1,4 +1,4 @@
-//! What holds of L1 tables, L2 tables and refcount tables alike.
+//! Tests that hold alike for L1 tables, L2 tables and refcount tables.
 
 use super::fixtures::{check_table, cleared, cleared_l1_table, disk_of, load};
 use qcow2_base::{ClusterCount, Fault};
@@ -14,13 +14,14 @@ const RESERVED: Option<Fault> = Some(Fault::EntryReserved);
 
 const UNALIGNED: Option<Fault> = Some(Fault::EntryUnaligned);
 
-/// Past the greatest end.
+/// A table past the largest end offset.
 const PAST: Option<Fault> = Some(Fault::TablePlace);
 
 /// More entries than an L1 table or a refcount table may have.
 const TOO_BIG: Option<Fault> = Some(Fault::TableTooBig);
 
-/// A table from a cluster on, numbers by their places among zeros, and why there is no such table, if so.
+/// A table at a cluster, numbers among zeros, by their offsets in the image, and the fault of its load, if
+/// any.
 #[derive(Clone, Copy, Debug)]
 struct Place {
     cluster_bits: u32,
@@ -43,7 +44,7 @@ const PLACES: &[Place] = rows! { Place:
     { cluster_bits: 16, cluster: (1 << 40) - 1, entries: 8192, numbers: &[], fault: None },
     { cluster_bits: 16, cluster: 1 << 40, entries: 8192, numbers: &[], fault: PAST },
     { cluster_bits: 21, cluster: 1 << 63, entries: 262144, numbers: &[], fault: PAST },
-    // numbers that are no entries: the first decides, also in another piece of 512 entries
+    // invalid entries: the first decides, also in another piece of 512 entries
     { cluster_bits: 9, cluster: 2, entries: 64, numbers: &[(1528, 2)], fault: RESERVED },
     { cluster_bits: 16, cluster: 2, entries: 8192,
         numbers: &[(131112, 0x200), (131120, 2)], fault: UNALIGNED },
@@ -55,7 +56,7 @@ const PLACES: &[Place] = rows! { Place:
         numbers: &[(135168, 0x202), (135176, 0x200)], fault: RESERVED },
 };
 
-// What a load returns where the storage refuses each call if none may be made.
+// Loads the table of a row. If the load may make no storage call, the first one fails.
 fn load_of(alloc: Global, row: Place) -> Result<L1Table, Fault> {
     let mut image = image_with(alloc, 64, row.numbers)?;
     put(&mut image, 0, u64::MAX)?;
@@ -67,8 +68,8 @@ fn load_of(alloc: Global, row: Place) -> Result<L1Table, Fault> {
     load(alloc, &mut image, disk, row.cluster, row.entries)
 }
 
-// A table is loaded from where it may be, and else no byte is read. Past the image's end all bytes are
-// zero. One without entries takes no call of the storage.
+// Checks that a table is loaded if its place is valid, and that otherwise no byte is read. All bytes past the
+// image's end are zero. A load without entries makes no storage call.
 fn check_load(alloc: Global, row: Place) -> Result<(), Fail> {
     match load_of(alloc, row) {
         Ok(table) => {
@@ -85,7 +86,7 @@ fn a_table_is_loaded_from_where_it_may_be(rt: HostRuntime) -> Result<(), Fail> {
     each(rt.alloc(), PLACES, check_load)
 }
 
-// A table, and why neither it nor an entry can be written where it lies.
+// A table, and the fault that refuses a write of it and of an entry.
 #[derive(Clone, Copy, Debug)]
 struct Refusal {
     entries: usize,
@@ -127,7 +128,7 @@ fn a_table_without_a_lawful_place_is_not_written(rt: HostRuntime) -> Result<(), 
     each(rt.alloc(), REFUSALS, check_not_written)
 }
 
-// A table of 65 entries has as many as two clusters hold in part.
+// A table of 65 entries fills its second cluster only in part.
 #[test]
 fn an_entry_past_the_end_is_the_entry_0(rt: HostRuntime) -> Result<(), Fail> {
     let table = cleared_l1_table(rt.alloc(), 65, None, true)?;

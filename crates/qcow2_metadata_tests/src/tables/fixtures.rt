@@ -1,4 +1,4 @@
-//! Tables to test with.
+//! Fixtures of tables.
 
 ghost use Rattle.std.specs.Prelude.{◌^◌, ◌≤◌, IsTrue};
 
@@ -10,12 +10,13 @@ use std::alloc::Global;
 use std::fmt::Debug;
 use std::test::Fail;
 
-/// A header of an image with these cluster bits, and else as most images have it.
+/// Returns a header with these cluster bits, and otherwise like that of most images.
 pub(crate) fn header_with(alloc: Global, cluster_bits: u32) -> Result<Header, Fault> {
     header_of(alloc, cluster_bits, 4, false)
 }
 
-/// What entries of tables depend on: cluster bits, and whether guest data lies in a file of its own.
+/// The properties of an image that table entries depend on: cluster bits, and whether it has an external data
+/// file.
 #[derive(Clone, Copy, Debug)]
 pub(crate) struct Disk {
     pub(crate) cluster_bits: u32,
@@ -28,13 +29,13 @@ pub(crate) const DISK: Disk = Disk {
     external: false,
 };
 
-/// The same with guest data in a file of its own.
+/// The same, with an external data file.
 pub(crate) const EXTERNAL: Disk = Disk {
     cluster_bits: 9,
     external: true,
 };
 
-/// A disk whose guest data is in the image.
+/// Returns a disk without an external data file.
 pub(crate) fn disk_of(cluster_bits: u32) -> Disk {
     Disk {
         cluster_bits,
@@ -42,7 +43,7 @@ pub(crate) fn disk_of(cluster_bits: u32) -> Disk {
     }
 }
 
-/// What a load of that many entries from a cluster on returns, of an image with such a disk.
+/// Loads a table of `entries` entries at a cluster, of an image with such a disk.
 pub(crate) fn load<T: LoadedTable, S: Storage>(
     alloc: Global,
     image: &mut S,
@@ -54,7 +55,7 @@ pub(crate) fn load<T: LoadedTable, S: Storage>(
     load_table(alloc, image, &header, HostCluster(cluster), entries)
 }
 
-/// Writes the table, and fails unless the image is then the other.
+/// Writes the table, and fails unless the image is as expected afterwards.
 pub(crate) fn check_written_as<T: Table>(
     table: &mut T,
     image: &mut MemStorage,
@@ -64,13 +65,14 @@ pub(crate) fn check_written_as<T: Table>(
     same_image(image, expected, "written")
 }
 
-/// An L1 entry and a standard L2 entry that is copied, and a refcount table entry, for each cluster size.
+/// For each cluster size an L1 entry and a standard L2 entry with the copied flag, and a refcount table
+/// entry.
 pub(crate) const NUMBER: u64 = 0x8000_0000_0020_0000;
 
-/// Bit 63 of an L1 or L2 entry: its cluster has no other reference.
+/// The copied flag, bit 63 of an L1 or L2 entry: its cluster has exactly one reference.
 pub(crate) const COPIED: u64 = 0x8000_0000_0000_0000;
 
-/// A table whose entries are 0 but for `number` at `index`.
+/// A table whose entries are 0, except `number` at `index`.
 #[derive(Clone, Copy, Debug)]
 pub(crate) struct State {
     pub(crate) entries: usize,
@@ -80,7 +82,7 @@ pub(crate) struct State {
     pub(crate) modified: bool,
 }
 
-/// A table that is loaded from cluster 2.
+/// Returns the state of a table that is loaded from cluster 2.
 pub(crate) fn loaded(entries: usize, index: usize, number: u64) -> State {
     State {
         entries,
@@ -91,13 +93,13 @@ pub(crate) fn loaded(entries: usize, index: usize, number: u64) -> State {
     }
 }
 
-/// A table of entries 0 that is new.
+/// Returns the state of a new table, whose entries are 0.
 pub(crate) fn cleared(entries: usize) -> State {
     loaded(entries, 0, 0).placed(None, true)
 }
 
 impl State {
-    /// The same with another cluster or none, and with this flag.
+    /// Returns the same with another cluster or none, and with this modified flag.
     pub(crate) fn placed(self, cluster: Option<u64>, modified: bool) -> State {
         State {
             cluster,
@@ -107,7 +109,7 @@ impl State {
     }
 }
 
-/// Fails unless the table is as this says.
+/// Fails unless the table has this state.
 pub(crate) fn check_table<T: Table, R: Debug + Drop>(
     table: &T,
     state: State,
@@ -125,7 +127,7 @@ pub(crate) fn check_table<T: Table, R: Debug + Drop>(
     }
 }
 
-// The first entry that is another, with its index.
+// Returns the first entry that differs, with its index.
 fn other_entry<T: Table>(table: &T, state: State) -> Option<(usize, u64)> {
     let (place, number) = (state.index, state.number);
     for index in 0..state.entries {
@@ -137,7 +139,7 @@ fn other_entry<T: Table>(table: &T, state: State) -> Option<(usize, u64)> {
     None
 }
 
-/// A table of an image with such a disk that is as this says.
+/// Returns a table with this state, of an image with such a disk.
 pub(crate) fn table_with<T: LoadedTable>(
     alloc: Global,
     disk: Disk,
@@ -151,7 +153,7 @@ pub(crate) fn table_with<T: LoadedTable>(
     Ok(table)
 }
 
-/// How many entries an L2 table has.
+/// Returns the number of entries of an L2 table.
 pub(crate) fn l2_entries(cluster_bits: u32) -> usize {
     if cluster_bits < 64 {
         (1 << cluster_bits) / 8
@@ -160,7 +162,7 @@ pub(crate) fn l2_entries(cluster_bits: u32) -> usize {
     }
 }
 
-// Gives the table a cluster or none, and sets or clears its flag. Fails where the cluster's offset
+// Sets or unsets the table's cluster, and sets or clears its modified flag. Fails if the cluster's offset
 // doesn't fit 64 bits.
 fn place<T: Table>(table: &mut T, cluster: Option<u64>, modified: bool) -> Result<(), Fault> {
     match cluster {
@@ -175,7 +177,7 @@ fn place<T: Table>(table: &mut T, cluster: Option<u64>, modified: bool) -> Resul
     Ok(())
 }
 
-// A table of that many entries 0.
+// Returns a table of `entries` entries, all 0.
 fn cleared_table<E: TableKind>(
     alloc: Global,
     header: &Header,
@@ -189,7 +191,7 @@ fn cleared_table<E: TableKind>(
     Ok(EntryTable::from_data(list, header))
 }
 
-/// An L1 table of that many entries 0, 4194305 at most, of an image of 512-byte clusters.
+/// Returns an L1 table of at most 4194305 entries, all 0, of an image of 512-byte clusters.
 pub(crate) fn cleared_l1_table(
     alloc: Global,
     entries: usize,
@@ -204,12 +206,12 @@ pub(crate) fn cleared_l1_table(
     Ok(table)
 }
 
-/// A new L2 table.
+/// Returns a new L2 table.
 pub(crate) fn cleared_l2_table(alloc: Global, cluster_bits: u32) -> Result<L2Table, Fault> {
     new_l2_table(alloc, &header_with(alloc, cluster_bits)?)
 }
 
-/// Fails unless the table grew to that many entries, or could not if there are none.
+/// Fails unless the table grew to `entries` entries, or couldn't grow if that is `None`.
 pub(crate) fn check_grown<T: Table + Drop, R: Debug + Drop>(
     answer: Result<T, Fault>,
     entries: Option<usize>,

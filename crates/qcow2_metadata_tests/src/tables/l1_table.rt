@@ -1,4 +1,4 @@
-//! L1 tables: how they grow, and how L2 tables are entered in them.
+//! L1 tables: growth, entered L2 tables, and copied flags.
 
 use super::fixtures::{
     COPIED, DISK, NUMBER, check_grown, check_table, cleared, disk_of, header_with, loaded,
@@ -11,7 +11,7 @@ use qcow2_testing::{each, rows, same};
 use std::alloc::Global;
 use std::test::Fail;
 
-// A table, an index, and how many entries there are once the table has it, if it can.
+// A table, an index, and the number of entries once the table has room for it, if it can.
 #[derive(Clone, Copy, Debug)]
 struct Growth {
     cluster_bits: u32,
@@ -33,7 +33,7 @@ const GROWTHS: &[Growth] = rows! { Growth:
     { cluster_bits: 9, entries: 1, index: usize::MAX, grown: None },
 };
 
-// Grows a table whose first entry alone isn't 0, and that stays.
+// Grows a table, whose first entry alone isn't 0, and which stays.
 fn check_growth(alloc: Global, row: Growth) -> Result<(), Fail> {
     let state = loaded(row.entries, 0, if row.entries > 0 { NUMBER } else { 0 });
     let source: L1Table = table_with(alloc, disk_of(row.cluster_bits), state)?;
@@ -66,7 +66,7 @@ fn an_entered_l2_table_is_copied_and_at_its_offset(rt: HostRuntime) -> Result<()
     each(rt.alloc(), ENTERED, check_entering)
 }
 
-// The last of a number of entries, the copied flag that it gets, and the entry then.
+// The last entry of a table, a copied flag for it, and the entry afterwards.
 #[derive(Clone, Copy, Debug)]
 struct Flagged {
     cluster_bits: u32,
@@ -89,10 +89,10 @@ const FLAGGED: &[Flagged] = rows! { Flagged:
     { cluster_bits: 9, entries: 64, number: COPIED, is_copied: false, after: 0 },
 };
 
-// The last cluster of all images, where clusters have 512 bytes.
+// The offset of the largest host cluster, for clusters of 512 bytes.
 const FURTHEST: u64 = 0xff_ffff_ffff_fe00;
 
-// Sets the flag of the last entry, and fails unless all else stays.
+// Sets or clears the copied flag of the last entry, and fails unless all else stays.
 fn check_flagged(alloc: Global, row: Flagged) -> Result<(), Fail> {
     let last = row.entries.saturating_sub(1);
     let state = loaded(row.entries, last, row.number);

@@ -1,5 +1,5 @@
-//! Edits of L2 tables: what they leave and hand back, what guest clusters read as, and where compressed data
-//! that is read lies.
+//! Edits of L2 tables: entries and handed-back clusters; mappings of guest clusters; and places of compressed
+//! data.
 
 use super::entries::{MEANINGS, Meaning};
 use super::fixtures::{COPIED, DISK, Disk, EXTERNAL, check_table, l2_entries, loaded, table_with};
@@ -13,10 +13,10 @@ use qcow2_testing::{each, fits, holds, rows, same};
 use std::alloc::Global;
 use std::test::Fail;
 
-/// The first cluster that is handed back and how many, if any.
+/// The first handed-back cluster and the number of clusters, if any.
 type Freed = Option<(u64, u64)>;
 
-/// What a guest cluster reads as, which the table and the permission to change it say alike.
+/// Returns the mapping of a guest cluster, on which the table and its write guard agree.
 pub(crate) fn mapping(table: &mut L2Table, guest_cluster: u64) -> Result<L2Mapping, Fail> {
     holds(fits(guest_cluster, 0, table.cluster_bits()), guest_cluster)?;
     let found = table.get_mapping(GuestCluster(guest_cluster))?;
@@ -29,8 +29,8 @@ fn range(guard: Option<CompressedClusterReadGuard<'_>>) -> Option<(u64, u64)> {
     guard.map(|guard| (guard.offset().0, guard.length().get()))
 }
 
-// Where the compressed data of a guest cluster begins and how many bytes it takes, which the table and
-// the permission to change it say alike.
+// Returns the offset and the length of the compressed data of a guest cluster, on which the table and its
+// write guard agree.
 fn compressed(table: &mut L2Table, guest_cluster: u64) -> Result<Option<(u64, u64)>, Fail> {
     holds(fits(guest_cluster, 0, table.cluster_bits()), guest_cluster)?;
     let found = range(table.lock_compressed_read(GuestCluster(guest_cluster))?);
@@ -40,7 +40,7 @@ fn compressed(table: &mut L2Table, guest_cluster: u64) -> Result<Option<(u64, u6
     Ok(found)
 }
 
-// That guest cluster 7 reads as this, and no other as compressed data.
+// Checks that guest cluster 7 has this mapping, and that guest cluster 8 isn't compressed.
 fn check_reads(table: &mut L2Table, reads: Reads) -> Result<(), Fail> {
     same(mapping(table, 7)?, mapping_of(reads)?, reads)?;
     let range = match reads {
@@ -51,7 +51,7 @@ fn check_reads(table: &mut L2Table, reads: Reads) -> Result<(), Fail> {
     same(found, (range, None), reads)
 }
 
-// Reads by an entry of a table.
+// Checks the mapping of an entry in a table.
 fn check_read(alloc: Global, row: Meaning) -> Result<(), Fail> {
     let state = loaded(l2_entries(row.disk.cluster_bits), 7, row.number);
     check_reads(&mut table_with(alloc, row.disk, state)?, row.reads)
@@ -67,20 +67,20 @@ fn a_guest_cluster_reads_as_its_entry_and_has_a_range_if_compressed(
 // An edit of an entry.
 #[derive(Clone, Copy, Debug)]
 enum Edit {
-    // to data in a cluster
+    // a map to data in a cluster
     Map(u64),
-    // the same with pending clusters
+    // the same, with pending clusters
     MapPending(u64),
-    // to zeros, without the cluster
+    // zeros without the cluster
     Zero,
-    // to zeros that keep it
+    // zeros that keep the cluster
     Keep,
     Discard,
 }
 
 use Edit::{Discard, Keep, Map, MapPending, Zero};
 
-// An edit of an entry, what it hands back, and the entry then.
+// An edit of an entry, the clusters that it hands back, and the entry afterwards.
 #[derive(Clone, Copy, Debug)]
 struct Edited {
     disk: Disk,
@@ -90,7 +90,8 @@ struct Edited {
     after: u64,
 }
 
-// Copied data in cluster 5, and in cluster 6; compressed data of three clusters; and what is handed back.
+// Data with the copied flag in cluster 5, and in cluster 6; compressed data of three clusters; and
+// handed-back clusters.
 const DATA_5: u64 = COPIED + 0xa00;
 
 const DATA_6: u64 = COPIED + 0xc00;
@@ -108,7 +109,7 @@ const EDITED: &[Edited] = rows! { Edited:
     { disk: DISK, number: 0xa01, edit: MapPending(6), freed: FIVE, after: DATA_6 },
     { disk: DISK, number: 0xa00, edit: MapPending(LAST), freed: FIVE, after: 0x80ff_ffff_ffff_fe00 },
     { disk: EXTERNAL, number: 0xa00, edit: MapPending(0), freed: FIVE, after: COPIED },
-    // compressed data: all of it in the cluster, and on both sides
+    // compressed data: within the mapped cluster, and on both sides of it
     { disk: Disk { cluster_bits: 16, external: false }, number: 0x4040_0000_0001_0010,
         edit: MapPending(1), freed: None, after: COPIED + 0x1_0000 },
     { disk: Disk { cluster_bits: 10, external: false }, number: IN_THREE,
@@ -130,7 +131,7 @@ const EDITED: &[Edited] = rows! { Edited:
         edit: Discard, freed: Some((268435455, 3)), after: 0 },
 };
 
-// The last cluster of all images.
+// The largest host cluster of any image.
 const LAST: u64 = 0x7fff_ffff_ffff;
 
 // Edits entry 63.
@@ -161,7 +162,7 @@ fn an_edit_leaves_its_entry_and_hands_back_what_it_drops(rt: HostRuntime) -> Res
     each(rt.alloc(), EDITED, check_edited)
 }
 
-// An entry, the copied flag that it gets, and the entry then, or that it can't have the flag.
+// An entry, a copied flag for it, and the entry afterwards, or `None` if it can't have the flag.
 #[derive(Clone, Copy, Debug)]
 struct Flagged {
     disk: Disk,
@@ -174,7 +175,7 @@ const FLAGGED: &[Flagged] = rows! { Flagged:
     { disk: DISK, number: 0xa00, is_copied: true, after: Some(DATA_5) },
     { disk: DISK, number: DATA_5, is_copied: true, after: Some(DATA_5) },
     { disk: DISK, number: DATA_5, is_copied: false, after: Some(0xa00) },
-    // zeros in a cluster, and an entry that names none
+    // zeros with a cluster, and an entry without one
     { disk: DISK, number: 0xa01, is_copied: true, after: Some(DATA_5 + 1) },
     { disk: DISK, number: DATA_5 + 1, is_copied: false, after: Some(0xa01) },
     { disk: DISK, number: 0, is_copied: true, after: Some(COPIED) },
@@ -183,7 +184,7 @@ const FLAGGED: &[Flagged] = rows! { Flagged:
         is_copied: true, after: Some(0x80ff_ffff_ffff_0000) },
     { disk: Disk { cluster_bits: 21, external: false }, number: COPIED + 0x20_0001,
         is_copied: false, after: Some(0x20_0001) },
-    // in an external data file: cluster 5, and cluster 0, which the flag alone names
+    // in an external data file: cluster 5, and cluster 0, which only the flag shows
     { disk: EXTERNAL, number: 0xa00, is_copied: true, after: Some(DATA_5) },
     { disk: EXTERNAL, number: COPIED, is_copied: false, after: Some(0) },
     // compressed data
@@ -192,7 +193,7 @@ const FLAGGED: &[Flagged] = rows! { Flagged:
     { disk: Disk { cluster_bits: 10, external: false }, number: IN_THREE, is_copied: true, after: None },
 };
 
-// Sets the flag of the entry, and fails unless all else stays.
+// Sets or clears the copied flag of the entry, and fails unless all else stays.
 fn check_flagged(alloc: Global, row: Flagged) -> Result<(), Fail> {
     let entries = l2_entries(row.disk.cluster_bits);
     let mut table = table_with(alloc, row.disk, loaded(entries, 63, row.number))?;

@@ -1,4 +1,4 @@
-//! The entries of mappings, and which mappings go on after which.
+//! The entries of mappings, and consecutive mappings.
 
 ghost use Rattle.std.specs.Prelude.{◌*◌, ◌^◌, ◌<◌, ◌↔◌, IsTrue};
 ghost use Rattle.qcow2_base.specs.Types.{IsClusterBits};
@@ -16,9 +16,9 @@ use std::test::Fail;
 pub(crate) enum Reads {
     /// Data in a host cluster, and whether it is copied.
     Data(u64, bool),
-    /// What the backing file has from an offset on.
+    /// The backing file from an offset on.
     Backing(u64),
-    /// Zeros that may have a host cluster, and whether that is copied.
+    /// Zeros, their host cluster, if any, and whether that is copied.
     Zeros(Option<u64>, bool),
     /// The offset of compressed data, and its length.
     Compressed(u64, u64),
@@ -26,7 +26,7 @@ pub(crate) enum Reads {
 
 use Reads::{Backing, Compressed, Data, Zeros};
 
-/// The mapping of these numbers.
+/// Returns the mapping of these numbers.
 pub(crate) fn mapping_of(reads: Reads) -> Result<L2Mapping, Fail> {
     Ok(match reads {
         Data(cluster, copied) => L2Mapping::DataFile {
@@ -45,7 +45,7 @@ pub(crate) fn mapping_of(reads: Reads) -> Result<L2Mapping, Fail> {
     })
 }
 
-// Whether the cluster begins before the end of all images.
+// Returns whether the cluster begins below 2^56.
 fn begins_in_an_image(cluster: u64, bits: u32) -> bool
     requires { IsClusterBits bits }
     ensures { IsTrue result ↔ (cluster * 2 ^ bits < 2 ^ 56) }
@@ -56,7 +56,7 @@ fn begins_in_an_image(cluster: u64, bits: u32) -> bool
     }
 }
 
-// Whether there is an entry of the mapping.
+// Returns whether the mapping has an entry.
 fn has_entry(mapping: L2Mapping, bits: u32) -> bool
     requires { IsClusterBits bits }
     ensures placed { IsTrue result → IsPlaced bits mapping }
@@ -82,8 +82,8 @@ fn has_entry(mapping: L2Mapping, bits: u32) -> bool
     }
 }
 
-// A mapping, the number of its entry, and what guest cluster 3 reads as by it without an external data file
-// and with one.
+// A mapping, the number of its entry, and the mapping of guest cluster 3 by that entry, without and with an
+// external data file.
 #[derive(Clone, Copy, Debug)]
 struct Entered {
     cluster_bits: u32,
@@ -101,7 +101,7 @@ const ENTERED: &[Entered] = rows! { Entered:
     { cluster_bits: 21, mapping: Zeros(None, false), number: 1,
         internal: Zeros(None, false), external: Zeros(None, false) },
     { cluster_bits: 9, mapping: Backing(0), number: 0, internal: Backing(1536), external: Backing(1536) },
-    // cluster 0 is one only where it is copied in an external data file
+    // an entry has cluster 0 only with the copied flag, in an external data file
     { cluster_bits: 9, mapping: Data(0, true), number: COPIED,
         internal: Backing(1536), external: Data(0, true) },
     { cluster_bits: 9, mapping: Zeros(Some(0), true), number: COPIED + 1,
@@ -113,7 +113,7 @@ const ENTERED: &[Entered] = rows! { Entered:
         internal: Compressed(0x600, 2097152), external: Compressed(0x600, 2097152) },
 };
 
-// A mapping's entry has this number, and reads as the other mappings.
+// Checks that a mapping's entry has this number and the other mappings.
 fn check_entry(row: Entered) -> Result<(), Fail> {
     let bits = row.cluster_bits;
     let mapping = mapping_of(row.mapping)?;
@@ -136,7 +136,7 @@ fn a_mapping_has_an_entry_that_reads_as_it() -> Result<(), Fail> {
     Ok(())
 }
 
-// Two mappings of an image of 512-byte clusters, and whether the second goes on after the first.
+// Two mappings of an image of 512-byte clusters, and whether the second continues the first.
 type Pair = (Reads, Reads, bool);
 
 const GOES_ON: &[Pair] = rows! {

@@ -1,4 +1,4 @@
-//! L2 tables: new ones, copies for another place, and when they are written.
+//! L2 tables: new ones, copies for another cluster, and writes of modified ones.
 
 use super::fixtures::{
     COPIED, DISK, Disk, EXTERNAL, NUMBER, check_table, check_written_as, cleared, cleared_l2_table,
@@ -24,7 +24,7 @@ fn a_new_table_fills_a_cluster_with_entries_0(rt: HostRuntime) -> Result<(), Fai
     Ok(())
 }
 
-// An entry, and it in the copy. The flag of the table is set where guest data is external.
+// An entry, and the same entry in a copy of its table. The modified flag is set if guest data is external.
 #[derive(Clone, Copy, Debug)]
 struct Copied {
     disk: Disk,
@@ -52,7 +52,7 @@ fn check_copy(copy: Result<L2Table, Fault>, row: Copied) -> Result<(), Fail> {
     check_table(&copy, state.placed(None, disk.external), row)
 }
 
-// Copies a table, which stays.
+// Copies a table, and checks that the table stays.
 fn check_copied(alloc: Global, row: Copied) -> Result<(), Fail> {
     let state = loaded(l2_entries(row.disk.cluster_bits), 63, row.number);
     let state = state.placed(Some(2), row.disk.external);
@@ -66,7 +66,7 @@ fn a_copy_has_the_same_mappings_and_no_copied_entry(rt: HostRuntime) -> Result<(
     each(rt.alloc(), COPIES, check_copied)
 }
 
-// A table's cluster and whether it is modified, and then the answer and how many calls the storage gets.
+// A table's cluster and modified flag, the result of a write, and its number of storage calls.
 #[derive(Clone, Copy, Debug)]
 struct Written {
     cluster: Option<u64>,
@@ -83,7 +83,7 @@ const WRITES: &[Written] = rows! { Written:
     { cluster: Some(2), modified: true, answer: Ok(()), calls: 1 },
 };
 
-// Writes the table to a storage that fails at each call if none is to be made.
+// Writes the table. If the write may make no storage call, the first one fails.
 fn check_write(table: &mut L2Table, row: Written) -> Result<(), Fail> {
     let alloc = table.allocator();
     let mut image = recorded(alloc, image_with(alloc, 1536, &[(1024, 0x200)])?);
@@ -112,7 +112,8 @@ fn write_if_modified_writes_a_modified_table_alone(rt: HostRuntime) -> Result<()
     each(rt.alloc(), WRITES, check_written)
 }
 
-// An image whose cluster 2 is a table of one entry that isn't 0, which maps guest cluster 3 to cluster 5.
+// Returns an image whose cluster 2 is a table with one entry other than 0, which maps guest cluster 3 to
+// cluster 5.
 fn image_of_one_mapping(alloc: Global) -> Result<MemStorage, Fault> {
     image_with(alloc, 1536, &[(1048, COPIED + 0xa00)])
 }

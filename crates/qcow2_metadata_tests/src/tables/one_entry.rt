@@ -1,4 +1,4 @@
-//! Writes of one entry: which bytes of the image change, by how many calls, and what they are then.
+//! Writes of one entry: their storage calls, and the bytes of the image that change.
 
 use super::fixtures::{check_table, disk_of, loaded, table_with};
 use qcow2_base::{Fault, MemStorage};
@@ -13,8 +13,8 @@ use std::test::Fail;
 
 const NUMBER: u64 = 0x8000_0000_0001_0000;
 
-// A table from a cluster on, its only entry that is not 0, and the place of that in the image; the bits of
-// the storage's alignment, and then where the bytes that are written begin, and how many.
+// A table at a cluster, its only entry other than 0, and that entry's offset in the image; the alignment of
+// the storage, in bits; and the offset and length of the written bytes.
 #[derive(Clone, Copy, Debug)]
 struct Written {
     cluster_bits: u32,
@@ -43,25 +43,25 @@ const WRITTEN: &[Written] = rows! { Written:
     { align_bits: 4, offset: 6496, len: 16, ..AT_6496 },
     { align_bits: 8, offset: 6400, len: 256, ..AT_6496 },
     { align_bits: 9, offset: 6144, len: 512, ..AT_6496 },
-    // more than a cluster
+    // an alignment of more than a cluster
     { align_bits: 12, offset: 6496, len: 8, ..AT_6496 },
     { align_bits: 30, offset: 6496, len: 8, ..AT_6496 },
-    // zeros past the table's end
+    // the written bytes past the table's end are zeros
     { cluster_bits: 9, cluster: 1, entries: 1, index: 0, place: 512, align_bits: 9, offset: 512, len: 512 },
     { cluster_bits: 12, cluster: 1, entries: 700, index: 699, place: 9688,
         align_bits: 12, offset: 8192, len: 4096 },
-    // more bytes than a table is written by at once
+    // more bytes than a piece of a table
     { cluster_bits: 13, cluster: 1, entries: 1024, index: 1023, place: 16376,
         align_bits: 13, offset: 8192, len: 8192 },
 };
 
-// An image of 0xa5 with this alignment.
+// Returns an image of bytes 0xa5 with this alignment.
 fn aligned_image(alloc: Global, bits: u32) -> Result<FailingStorage<MemStorage>, Fault> {
     let image = filled_image(alloc, 16384)?;
     Ok(recorded(alloc, image.with_align(1 << bits.min(30))))
 }
 
-// An image of 0xa5 but for zeros where bytes are written, and the number at its place.
+// Returns the image after the write: bytes 0xa5, zeros in the written range, and the number at its offset.
 fn image_after(alloc: Global, row: Written) -> Result<MemStorage, Fault> {
     let mut image = filled_image(alloc, 16384)?;
     put_bytes(
@@ -73,7 +73,7 @@ fn image_after(alloc: Global, row: Written) -> Result<MemStorage, Fault> {
     Ok(image)
 }
 
-// Writes the entry by one call.
+// Writes the entry, and fails unless that takes one storage call.
 fn check_write(table: &mut L1Table, row: Written) -> Result<(), Fail> {
     let mut image = aligned_image(table.allocator(), row.align_bits)?;
     let answer = write_entry(table, &mut image, row.index);
@@ -85,7 +85,7 @@ fn check_write(table: &mut L1Table, row: Written) -> Result<(), Fail> {
     same_image(&image.inner, expected, row)
 }
 
-// The flag is set for every other row.
+// Checks a row. The modified flag is set for odd alignment bits.
 fn check_written(alloc: Global, row: Written) -> Result<(), Fail> {
     let state = loaded(row.entries, row.index, NUMBER);
     let state = state.placed(Some(row.cluster), row.align_bits % 2 == 1);

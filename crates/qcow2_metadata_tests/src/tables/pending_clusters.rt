@@ -1,4 +1,4 @@
-//! Clusters that wait for a reference, and are handed back where nothing refers to them.
+//! Pending clusters, and clusters that a refusal hands back.
 
 use super::fixtures::{check_table, loaded};
 use qcow2_base::{ClusterCount, Fault, HostCluster};
@@ -7,7 +7,7 @@ use qcow2_metadata::{ClustersToFreeEntry, PendingClusters, Table};
 use qcow2_testing::same;
 use std::test::Fail;
 
-/// Clusters by the first of them and their number.
+/// Returns clusters, given by the first and their number.
 pub(crate) fn clusters(first: u64, count: u64) -> ClustersToFreeEntry {
     ClustersToFreeEntry {
         first: HostCluster(first),
@@ -15,8 +15,8 @@ pub(crate) fn clusters(first: u64, count: u64) -> ClustersToFreeEntry {
     }
 }
 
-/// What is entered as entry 3 of a table whose entry 3 is of another one: its cluster, if it has one, whether
-/// with pending clusters, and the entry then.
+/// A table or block that replaces entry 3 of another table: its cluster, if any; whether it comes with
+/// pending clusters; and the entry afterwards.
 #[derive(Clone, Copy, Debug)]
 pub(crate) struct Entered {
     pub(crate) cluster: Option<u64>,
@@ -24,13 +24,13 @@ pub(crate) struct Entered {
     pub(crate) number: u64,
 }
 
-/// The pending cluster of a row: that of what is entered, or cluster 7 where it has none.
+/// Returns the pending cluster of a row: that of the entered table or block, or cluster 7 if it has none.
 pub(crate) fn pending_of(row: Entered) -> Option<ClustersToFreeEntry> {
     row.is_pending
         .then_some(clusters(row.cluster.unwrap_or(7), 1))
 }
 
-/// Fails unless the table has the entry, or else the refusal handed the pending cluster back.
+/// Fails unless the table has the entry, or the refusal handed the pending cluster back.
 pub(crate) fn check_entered<T: Table>(
     table: &T,
     found: Result<(), Refusal>,

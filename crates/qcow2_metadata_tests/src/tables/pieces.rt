@@ -1,4 +1,4 @@
-//! Tables are read and written in pieces of 4096 bytes, counted from where they begin.
+//! Loads and writes of tables in pieces of 4096 bytes, counted from the table's start.
 
 use super::fixtures::{COPIED, DISK, disk_of, load};
 use qcow2_base::{Fault, MemStorage};
@@ -11,10 +11,10 @@ use qcow2_testing::{
 use std::alloc::Global;
 use std::test::Fail;
 
-/// Where each piece of a table begins, and how many bytes it has.
+/// The offset and the length of each piece of a table.
 pub(crate) type Pieces = &'static [(u64, usize)];
 
-// A table, by its cluster and that cluster's offset, and its pieces.
+// A table, given by its cluster and that cluster's offset, and its pieces.
 #[derive(Clone, Copy, Debug)]
 struct InPieces {
     cluster_bits: u32,
@@ -31,7 +31,7 @@ const TABLES: &[InPieces] = rows! { InPieces:
     { cluster_bits: 9, cluster: 8, offset: 4096, entries: 511, pieces: &[(4096, 4088)] },
     { cluster_bits: 9, cluster: 8, offset: 4096, entries: 512, pieces: &[(4096, 4096)] },
     { cluster_bits: 9, cluster: 8, offset: 4096, entries: 1025, pieces: THREE_PIECES },
-    // pieces that begin at no multiple of 4096
+    // pieces at offsets that aren't multiples of 4096
     { cluster_bits: 9, cluster: 1, offset: 512, entries: 513, pieces: &[(512, 4096), (4608, 8)] },
     { cluster_bits: 9, cluster: 7, offset: 3584, entries: 1025,
         pieces: &[(3584, 4096), (7680, 4096), (11776, 8)] },
@@ -40,7 +40,8 @@ const TABLES: &[InPieces] = rows! { InPieces:
 
 const THREE_PIECES: Pieces = &[(4096, 4096), (8192, 4096), (12288, 8)];
 
-// An image of 0xa5 that has that many entries from an offset on: no two of 4096 are the same.
+// Returns an image of bytes 0xa5 with `entries` entries from an offset on; any 4096 in a row differ from each
+// other.
 fn image_with_entries(alloc: Global, start: u64, entries: usize) -> Result<MemStorage, Fault> {
     let mut image = filled_image(alloc, 20000)?;
     for index in 0..entries {
@@ -51,7 +52,7 @@ fn image_with_entries(alloc: Global, start: u64, entries: usize) -> Result<MemSt
     Ok(image)
 }
 
-/// Fails unless these pieces were read, or written.
+/// Fails unless the calls read, or wrote, these pieces.
 pub(crate) fn check_calls(
     alloc: Global,
     calls: &[StorageCall],
@@ -70,7 +71,7 @@ pub(crate) fn check_calls(
     same(calls, want.as_slice(), pieces)
 }
 
-// Writes the table to an image of other bytes, which are then these.
+// Writes the table to an image of other bytes, and fails unless the image then has the expected ones.
 fn check_written(table: &mut L1Table, expected: &[u8], row: InPieces) -> Result<(), Fail> {
     let alloc = table.allocator();
     let mut image = recorded(alloc, filled_image(alloc, 20000)?);
@@ -94,10 +95,10 @@ fn a_table_is_read_and_written_in_its_pieces(rt: HostRuntime) -> Result<(), Fail
     each(rt.alloc(), TABLES, check_pieces)
 }
 
-// A byte of the image that is 1 and makes its entry a bad one, and how many pieces are read.
+// The offset of a byte 1 that makes its entry invalid, and the number of pieces that a load reads.
 const BAD: &[(u64, usize)] = &[(4103, 1), (8191, 1), (8199, 2), (12287, 2), (12295, 3)];
 
-// Loads a table of 1025 entries from byte 4096 on.
+// Loads a table of 1025 entries from byte 4096 on, and checks its reads.
 fn check_reads(alloc: Global, row: (u64, usize)) -> Result<(), Fail> {
     let (at, count) = row;
     let mut image = image_with_entries(alloc, 4096, 1025)?;
@@ -114,7 +115,7 @@ fn a_load_reads_no_piece_after_that_of_a_bad_entry(rt: HostRuntime) -> Result<()
     each(rt.alloc(), BAD, check_reads)
 }
 
-// Writes a table whose third piece the storage refuses, and then once more.
+// Writes a table while the storage fails the write of its third piece, and then once more.
 fn check_torn(table: &mut L1Table, image: &mut FailingStorage<MemStorage>) -> Result<(), Fail> {
     let alloc = table.allocator();
     image.plan = Some(2);

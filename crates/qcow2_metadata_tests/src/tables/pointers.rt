@@ -1,4 +1,4 @@
-//! Setting where a header's tables lie, and writing that and the disk's size by themselves.
+//! Pointers of a header to its tables, and writes of just these and of the disk's size.
 
 use super::fixtures::{DISK, cleared, cleared_l1_table, header_with, table_with};
 use super::pending_clusters::clusters;
@@ -11,8 +11,8 @@ use qcow2_testing::{all_same, filled_image, put_bytes, recorded, same, same_imag
 use std::alloc::Global;
 use std::test::Fail;
 
-// Gives the header an L1 table of one entry with a cluster, whose clusters are pending, or without one and
-// with pending clusters 7 to 9.
+// Sets the header's L1 table, of one entry, with pending clusters: those of the table, or clusters 7 to 9 if
+// it has no cluster.
 fn set_pending_table(header: &mut Header, table: &L1Table) -> Result<(), Refusal> {
     let pending = match table.get_cluster() {
         Some(first) => clusters(first.0, table.cluster_count().0),
@@ -21,13 +21,13 @@ fn set_pending_table(header: &mut Header, table: &L1Table) -> Result<(), Refusal
     set_l1_table(header, table, Some(pending))
 }
 
-// Gives the header a refcount table of 65 entries with a cluster or none.
+// Sets the header's refcount table, of 65 entries, with a cluster or none.
 fn set_table_of_65(alloc: Global, header: &mut Header, cluster: Option<u64>) -> Result<(), Fault> {
     let table: RefTable = table_with(alloc, DISK, cleared(65).placed(cluster, true))?;
     set_reftable(header, &table)
 }
 
-// Gives the header an L1 table of one entry at 0x200 and a refcount table of 65 entries at 0x800, and then
+// Sets the header's L1 table of one entry at 0x200 and its refcount table of 65 entries at 0x800, and then
 // tables without a cluster, which are refused.
 fn set_tables(alloc: Global, header: &mut Header) -> Result<(), Fail> {
     let found = set_pending_table(header, &cleared_l1_table(alloc, 1, Some(1), true)?);
@@ -40,7 +40,7 @@ fn set_tables(alloc: Global, header: &mut Header) -> Result<(), Fail> {
     same((found, answer), expected, "not placed")
 }
 
-// A header whose disk has 4096 bytes, and that has these tables.
+// Returns a header with a disk of 4096 bytes and these tables.
 fn header_with_tables(alloc: Global) -> Result<Header, Fail> {
     let mut header = header_with(alloc, 9)?;
     header.set_size(4096);
@@ -59,7 +59,7 @@ fn a_header_refers_to_the_tables_that_it_was_given(rt: HostRuntime) -> Result<()
     }
 }
 
-// A part of a header that is written by itself.
+// A part of a header that has a write of its own.
 #[derive(Clone, Copy, Debug)]
 enum Part {
     Size,
@@ -75,14 +75,14 @@ fn write_part<S: Storage>(header: &Header, image: &mut S, part: Part) -> Result<
     }
 }
 
-// Where the bytes of each part begin, and which they are.
+// The parts, with the offset of their bytes, and the bytes.
 const PARTS: &[(Part, u64, &'static [u8])] = &[
     (Part::Size, 24, &[0, 0, 0, 0, 0, 0, 0x10, 0]),
     (Part::L1Table, 36, &[0, 0, 0, 1, 0, 0, 0, 0, 0, 0, 2, 0]),
     (Part::Reftable, 48, &[0, 0, 0, 0, 0, 0, 8, 0, 0, 0, 0, 2]),
 ];
 
-// Writes the part over 72 bytes of 0xa5 by one call.
+// Writes the part over 72 bytes 0xa5, and fails unless that takes one storage call.
 fn check_written(
     alloc: Global,
     header: &Header,

@@ -1,4 +1,4 @@
-//! Refcount blocks: their counters at each width, what steps leave, and where they are read and written.
+//! Refcount blocks: refcounts of each width, steps, loads and writes.
 
 use super::blocks::{counter, load, new_cleared, place, told};
 use super::fixtures::{DISK, NUMBER, loaded, table_with};
@@ -15,7 +15,8 @@ use qcow2_testing::{
 use std::alloc::Global;
 use std::test::Fail;
 
-// Three clusters of 512 bytes: 0xa5, zeros but for a number of `len` bytes at a place, and 0xa5 again.
+// Returns three clusters of 512 bytes: 0xa5; zeros, except a number of `len` bytes at an offset; and 0xa5
+// again.
 fn image_with(alloc: Global, place: u64, len: usize, number: u64) -> Result<MemStorage, Fault> {
     let number = number.to_be_bytes();
     let Some(bytes) = number.get(8usize.saturating_sub(len)..) else {
@@ -27,21 +28,22 @@ fn image_with(alloc: Global, place: u64, len: usize, number: u64) -> Result<MemS
     Ok(image)
 }
 
-// A step of a counter with the number that it returns, or one that is refused.
+// A step of a refcount: a successful one with the old refcount that it returns, or a refused one.
 #[derive(Clone, Copy, Debug)]
 enum Tally {
     Up(u64),
     Full,
     Down(u64),
     Empty,
-    // a counter in the place of this one
+    // a new refcount, and the old one that it replaces
     Put(u64, u64),
     TooGreat(u64),
 }
 
 use Tally::{Down, Empty, Full, Put, TooGreat, Up};
 
-// A counter, the place of its bytes and how many, the number that they are, its steps, and the number then.
+// A refcount, given by its index; the offset and number of its bytes, their value, the steps, and the value
+// afterwards.
 #[derive(Clone, Copy, Debug)]
 struct Stepped {
     order: u32,
@@ -91,10 +93,10 @@ const STEPPED: &[Stepped] = rows! { Stepped:
     { order: 6, index: 63, place: 504, len: 8, before: 1, steps: &[Put(u64::MAX, 1), Full], after: u64::MAX },
 };
 
-// One less than the most references.
+// One less than the largest refcount.
 const LESS: u64 = u64::MAX - 1;
 
-// Makes the step, which sets the flag if it isn't refused.
+// Makes the step, which sets the modified flag unless it is refused.
 fn check_answer(block: &mut RefBlock, index: usize, tally: Tally) -> Result<(), Fail> {
     let was_modified = block.is_modified();
     let (found, answer) = match tally {
@@ -109,7 +111,7 @@ fn check_answer(block: &mut RefBlock, index: usize, tally: Tally) -> Result<(), 
     same((found, block.is_modified()), (answer, modified), tally)
 }
 
-// Steps a block, and writes it.
+// Makes steps in a block, and writes it.
 fn check_steps(block: &mut RefBlock, image: &mut MemStorage, row: Stepped) -> Result<(), Fail> {
     for tally in row.steps {
         check_answer(block, row.index, *tally)?;
@@ -131,7 +133,7 @@ fn steps_change_one_counter_and_say_what_it_was(rt: HostRuntime) -> Result<(), F
     each(rt.alloc(), STEPPED, check_stepped)
 }
 
-// A step of the last counter of a block of 2 MiB, and the last eight bytes before it and after it.
+// A step of the last refcount of a block of 2 MiB, and the last eight bytes before and after.
 #[derive(Clone, Copy, Debug)]
 struct Last {
     order: u32,
@@ -147,7 +149,7 @@ const LAST: &[Last] = rows! { Last:
     { order: 6, index: 262143, before: 1, step: Put(u64::MAX, 1), after: u64::MAX },
 };
 
-// An image of 2 MiB that is zero but for the last eight bytes.
+// Returns an image of 2 MiB whose bytes are zero, except the last eight.
 fn image_of_last(alloc: Global, last: u64) -> Result<MemStorage, Fault> {
     numbers_image(alloc, 2097152, &[(2097144, last)])
 }
@@ -165,7 +167,7 @@ fn the_last_counter_of_the_largest_block_is_put_in_its_place(rt: HostRuntime) ->
     each(rt.alloc(), LAST, check_last)
 }
 
-/// An image of `len` bytes, of which byte i is `i mod 251`.
+/// Returns an image of `len` bytes, whose byte i is `i mod 251`.
 pub(crate) fn pattern(alloc: Global, len: usize) -> Result<MemStorage, Fault> {
     let mut bytes = Vec::new(alloc);
     for at in 0..len {
@@ -174,7 +176,7 @@ pub(crate) fn pattern(alloc: Global, len: usize) -> Result<MemStorage, Fault> {
     Ok(MemStorage::new(bytes))
 }
 
-// How many counters a block has, and the last of them where its bytes are the pattern: the least block ends
+// The number of refcounts of a block, and the last one if its bytes are the pattern: the smallest block ends
 // with the bytes 2 to 9, the largest with 0x27 to 0x2e.
 #[derive(Clone, Copy, Debug)]
 struct Whole {
@@ -211,7 +213,7 @@ fn check_whole(block: &mut RefBlock, bytes: &[u8], row: Whole) -> Result<(), Fai
     same_bytes(other.bytes(), bytes, row)
 }
 
-// Reads the block of the image, and writes it to another.
+// Loads the block of the image, and writes it to another.
 fn check_read_and_written(alloc: Global, image: &mut MemStorage, row: Whole) -> Result<(), Fail> {
     let mut block = load(alloc, image, (row.cluster_bits, row.order), 0)?;
     let len = if row.cluster_bits == 9 { 512 } else { 2097152 };
@@ -227,10 +229,10 @@ fn the_least_and_the_largest_blocks_are_written_as_read(rt: HostRuntime) -> Resu
     Ok(())
 }
 
-// What a write returns, and how many calls the storage gets.
+// The result of a write, and its number of storage calls.
 type Answer = (Result<(), Fault>, usize);
 
-// A block's cluster, whether it is modified, and what comes of `write_if_modified` and then of a write.
+// A block's cluster and modified flag, and the results of `write_if_modified` and then of a write.
 #[derive(Clone, Copy, Debug)]
 struct Written {
     cluster: u64,
@@ -261,7 +263,7 @@ fn answer_of(
     (answer, image.calls.len())
 }
 
-// Writes the block to an image of 0xa5 if it is modified, and then in any case.
+// Writes the block to an image of bytes 0xa5 if it is modified, and then in any case.
 fn check_write(block: &mut RefBlock, row: Written) -> Result<(), Fail> {
     let alloc = block.allocator();
     let mut image = recorded(alloc, filled_image(alloc, 1536)?);
@@ -280,7 +282,7 @@ fn check_write(block: &mut RefBlock, row: Written) -> Result<(), Fail> {
     same_image(&image.inner, expected, row)
 }
 
-// Writes a block of an image at the same place or at another.
+// Writes a block of an image to the same cluster or to another.
 fn check_written(alloc: Global, row: Written) -> Result<(), Fail> {
     let mut block = load(alloc, &mut image_with(alloc, 0, 1, 7)?, (9, 4), 1)?;
     place(&mut block, row.cluster, row.modified)?;
@@ -292,7 +294,7 @@ fn a_block_is_written_where_it_may_be(rt: HostRuntime) -> Result<(), Fail> {
     each(rt.alloc(), WRITES, check_written)
 }
 
-// What a block says that is loaded from a cluster.
+// Returns the number of refcounts, the offset and the modified flag of a block that is loaded from a cluster.
 fn loaded_from(alloc: Global, cluster: u64) -> Result<(usize, Option<HostOffset>, bool), Fault> {
     let block = load(alloc, &mut filled_image(alloc, 16)?, (9, 4), cluster)?;
     Ok((block.entries(), block.get_offset(), block.is_modified()))

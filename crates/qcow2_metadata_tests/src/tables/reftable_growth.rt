@@ -1,4 +1,4 @@
-//! Refcount tables: how they grow, and how many spare entries they take along for that.
+//! Refcount tables: growth, and the spare entries that it adds.
 
 use super::fixtures::{
     DISK, NUMBER, check_grown, check_table, cleared, disk_of, loaded, table_with,
@@ -10,14 +10,15 @@ use qcow2_testing::{each, holds, rows, same};
 use std::alloc::Global;
 use std::test::Fail;
 
-// The least spare entries, if there may be that many, and the turns that it took to find them.
+// Returns the least number of spare entries, if the table may have that many, and the turns of the search for
+// it.
 fn spare_of(alloc: Global, row: Growth) -> Result<(Option<usize>, usize), Fault> {
     let header = header_of(alloc, row.cluster_bits, row.refcount_order, false)?;
     Ok(least_spare(row.entries, row.index, &header))
 }
 
-// A growth of a refcount table to hold an index: how many spare entries are the least, and how many entries
-// there are then, if there may be that many.
+// A growth of a refcount table to hold an index: the least number of spare entries, and the number of entries
+// afterwards, if the table may have that many.
 #[derive(Clone, Copy, Debug)]
 struct Growth {
     cluster_bits: u32,
@@ -28,7 +29,7 @@ struct Growth {
     grown: Option<usize>,
 }
 
-// A spare of a thousand.
+// A growth with over a thousand spare entries.
 const THOUSAND: Growth = Growth {
     cluster_bits: 9,
     refcount_order: 6,
@@ -68,7 +69,7 @@ const GROWTHS: &[Growth] = rows! { Growth:
     { cluster_bits: 21, refcount_order: 0, entries: 0, index: 4194303, spare: None, grown: None },
 };
 
-// The least spare entries are found in no more turns than they are.
+// Checks that the search for the least number of spare entries takes at most that many turns.
 fn check_spare(alloc: Global, row: Growth) -> Result<(), Fail> {
     let (spare, turns) = spare_of(alloc, row)?;
     same(spare, row.spare, row)?;
@@ -78,7 +79,7 @@ fn check_spare(alloc: Global, row: Growth) -> Result<(), Fail> {
     }
 }
 
-// Grows a table whose last entry alone isn't 0, and that stays.
+// Grows a table, whose last entry alone isn't 0, and which stays.
 fn check_growth(alloc: Global, row: Growth) -> Result<(), Fail> {
     let number = if row.entries > 0 { NUMBER } else { 0 };
     let state = loaded(row.entries, row.entries.saturating_sub(1), number);
@@ -89,7 +90,7 @@ fn check_growth(alloc: Global, row: Growth) -> Result<(), Fail> {
     check_table(&source, state, row)
 }
 
-// How many clusters a table of 64 clusters has, once it holds one index more.
+// Returns the clusters of a table of 64 clusters once it has grown by one index.
 fn clusters_of_grown(alloc: Global) -> Result<ClusterCount, Fail> {
     let state = cleared(4096).placed(Some(2), false);
     let source: RefTable = table_with(alloc, DISK, state)?;

@@ -1,5 +1,5 @@
-//! What a call of a table or block leaves where the storage refuses one of its calls, each in turn: numbers
-//! and cluster as they were, and in the image the pieces before. The same call does all then.
+//! Calls of tables and blocks over a storage that fails each call in turn: entries, refcounts and cluster
+//! stay, and the image has the pieces before. The same call succeeds afterwards.
 
 use super::blocks;
 use super::fixtures::{NUMBER, check_table, disk_of, load, loaded};
@@ -17,7 +17,7 @@ use std::fmt::Debug;
 use std::test::Fail;
 
 /// A table of 1024 entries, or a block of this refcount order. It has 8192 bytes from byte 16384 on, which
-/// are zero but for the last eight.
+/// are zero, except the last eight.
 #[derive(Clone, Copy, Debug)]
 enum Kind {
     L1Table,
@@ -44,8 +44,8 @@ enum Call {
 
 use Call::{Load, Write, WriteEntry, WriteIfModified};
 
-// A call, by the bits of the storage's alignment, and whether the flag is set before it, once it was refused,
-// and once it is done; and the pieces that it reads or writes, each by a call of the storage.
+// A call, with the storage's alignment in bits; the modified flag before it, after it was refused, and after
+// it succeeded; and the pieces that it reads or writes, each by one storage call.
 #[derive(Clone, Copy, Debug)]
 struct Run {
     call: Call,
@@ -90,7 +90,7 @@ const OF_BLOCKS: &[Run] = rows! { Run:
 // The cluster of the table or block.
 const CLUSTER: HostCluster = HostCluster(2);
 
-// An image of 0xa5 but for these pieces of the table or block.
+// Returns an image of bytes 0xa5, except these pieces of the table or block.
 fn image_with(alloc: Global, pieces: &[(u64, usize)]) -> Result<MemStorage, Fault> {
     let mut image = filled_image(alloc, 24576)?;
     for (offset, len) in pieces {
@@ -158,8 +158,8 @@ fn make<S: Storage>(
     }
 }
 
-// Fails unless the numbers and the cluster are the old ones, and the flag is this. A block's numbers show
-// where it is written.
+// Fails unless the entries and the cluster are unchanged, and the modified flag is this. Refcounts of a block
+// are checked once it is written.
 fn check_held<R: Debug + Copy + Drop>(held: &Held, modified: bool, row: R) -> Result<(), Fail> {
     let state = loaded(1024, 1023, NUMBER).placed(Some(2), modified);
     match held {
@@ -178,7 +178,7 @@ fn image_before(alloc: Global, run: Run) -> Result<FailingStorage<MemStorage>, F
     Ok(recorded(alloc, image.with_align(1 << run.align_bits.min(30))))
 }
 
-// Fails unless the call is refused once this many pieces are read or written.
+// Fails unless the call is refused after this many pieces are read or written.
 fn check_refused(
     alloc: Global,
     (kind, run): (Kind, Run),
@@ -199,7 +199,7 @@ fn check_refused(
     same_image(&image.inner, expected, (kind, run))
 }
 
-// Fails unless the call is done, piece by piece.
+// Fails unless the call succeeds, piece by piece.
 fn check_done(
     alloc: Global,
     (kind, run): (Kind, Run),

@@ -1,5 +1,5 @@
-//! Blocks that are read again, from another cluster: each is the one that is loaded from there. A refused
-//! read leaves it without a cluster, and modified. A place that is refused leaves it as it was.
+//! Blocks that are loaded again, from another cluster: each equals a new load from there. A failed read
+//! leaves the block without a cluster, and modified. A refused cluster leaves it unchanged.
 
 use super::blocks::{load, told};
 use super::refcount_blocks::pattern;
@@ -12,7 +12,7 @@ use qcow2_testing::{
 use std::alloc::Global;
 use std::test::Fail;
 
-// Blocks of clusters of this size, by how many bytes they have and in how many pieces they are read.
+// Blocks of this cluster size, with their length in bytes and the number of pieces in which they are read.
 #[derive(Clone, Copy, Debug)]
 struct Size {
     cluster_bits: u32,
@@ -35,20 +35,20 @@ const LARGEST: Size = Size {
 // A size, and a refcount order.
 type Row = (Size, u32);
 
-// Reads the block again, from a cluster of an image of its sizes.
+// Loads the block again, from a cluster of an image with its sizes.
 fn reload<S: Storage>(block: &mut RefBlock, image: &mut S, cluster: u64) -> Result<(), Fault> {
     let alloc = block.allocator();
     let header = header_of(alloc, block.cluster_bits(), block.refcount_order(), false)?;
     reload_block(block, image, &header, HostCluster(cluster))
 }
 
-// How many counters a block has, its cluster and whether it is modified.
+// Returns the number of refcounts of a block, with its cluster and modified flag.
 fn state(row: Row, cluster: Option<u64>, modified: bool) -> (usize, Option<HostCluster>, bool) {
     let counters = row.0.bytes.saturating_mul(8) >> row.1.min(6);
     (counters, cluster.map(HostCluster), modified)
 }
 
-// Fails unless the block is that of the image's cluster 1, and writes it.
+// Fails unless the block is that of the image's cluster 1, and a write of it writes the same bytes.
 fn check_block(block: &mut RefBlock, image: &MemStorage, row: Row) -> Result<(), Fail> {
     same(told(block), state(row, Some(1), false), row)?;
     let len = row.0.bytes;
@@ -59,7 +59,7 @@ fn check_block(block: &mut RefBlock, image: &MemStorage, row: Row) -> Result<(),
     same_bytes(found, part_of(image.bytes(), len, end)?, row)
 }
 
-// Reads a block of cluster 0 again, from cluster 1.
+// Loads a block of cluster 0 again, from cluster 1.
 fn check_reloaded(alloc: Global, image: &mut MemStorage, row: Row) -> Result<(), Fail> {
     let mut block = load(alloc, image, (row.0.cluster_bits, row.1), 0)?;
     block.set_modified();
@@ -88,7 +88,7 @@ fn the_largest_block_is_read_again_in_many_pieces(rt: HostRuntime) -> Result<(),
     check_orders(rt.alloc(), &mut pattern(rt.alloc(), 4194304)?, LARGEST)
 }
 
-// Fails unless the block that was read again prints as the loaded one.
+// Fails unless the block that is loaded again prints as a newly loaded one.
 fn check_printed(alloc: Global, image: &mut MemStorage, order: u32) -> Result<(), Fail> {
     let expected = load(alloc, image, (9, order), 1)?;
     let mut block = load(alloc, image, (9, order), 0)?;
@@ -108,7 +108,7 @@ fn a_block_that_is_read_again_is_the_one_that_is_loaded(rt: HostRuntime) -> Resu
     Ok(())
 }
 
-// Fails unless the call that comes after some others is refused, and the same call is done then.
+// Fails unless the load is refused at the storage call after the first `passes`, and succeeds when repeated.
 fn check_refused(
     alloc: Global,
     image: &mut FailingStorage<MemStorage>,
@@ -127,7 +127,7 @@ fn check_refused(
     check_block(&mut block, &image.inner, row)
 }
 
-// Refuses each read in turn.
+// Fails each read in turn.
 fn check_refusals(
     alloc: Global,
     image: &mut FailingStorage<MemStorage>,

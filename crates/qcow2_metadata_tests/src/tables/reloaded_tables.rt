@@ -1,5 +1,5 @@
-//! L2 tables that are read again, from another cluster: each is the one that is there. A refused read, or an
-//! entry that isn't valid, leaves valid entries, no cluster, and the flag set.
+//! L2 tables that are loaded again, from another cluster: each equals the table there. A failed read, or an
+//! invalid entry, leaves valid entries, no cluster, and the modified flag set.
 
 use super::fixtures::{cleared_l2_table, disk_of, l2_entries, load};
 use qcow2_base::{Fault, HostCluster, MemStorage, Storage};
@@ -9,7 +9,7 @@ use qcow2_testing::{FailingStorage, image_with, recorded, rows, same};
 use std::alloc::Global;
 use std::test::Fail;
 
-// The entry at an index of the table at a cluster: data in another cluster each, or zeros.
+// Returns the entry at an index of the table at a cluster: data, each in another cluster, or zeros.
 fn number(cluster: u64, index: usize, cluster_bits: u32) -> u64 {
     let place = (index as u64).wrapping_mul(5).wrapping_add(cluster) % 8191;
     if place == 0 {
@@ -19,7 +19,7 @@ fn number(cluster: u64, index: usize, cluster_bits: u32) -> u64 {
     }
 }
 
-// An image with such tables at clusters 0 and 1.
+// Returns an image with such tables at clusters 0 and 1.
 fn two_tables(alloc: Global, cluster_bits: u32) -> Result<MemStorage, Fail> {
     let entries = l2_entries(cluster_bits);
     let mut bytes = Vec::new(alloc);
@@ -35,13 +35,13 @@ fn two_tables(alloc: Global, cluster_bits: u32) -> Result<MemStorage, Fail> {
     Ok(MemStorage::new(bytes))
 }
 
-// Reads the table again, from a cluster of an image of its size.
+// Loads the table again, from a cluster of an image with its cluster size.
 fn reload<S: Storage>(table: &mut L2Table, image: &mut S, cluster: u64) -> Result<(), Fault> {
     let header = header_of(table.allocator(), table.cluster_bits(), 4, false)?;
     reload_l2_table(table, image, &header, HostCluster(cluster))
 }
 
-// The first entry that isn't that of the table at a cluster, if there is one.
+// Returns the first entry that differs from the table at a cluster, if any.
 fn other_entry(table: &L2Table, cluster: u64) -> Option<(usize, u64)> {
     for index in 0..table.entries() {
         let found = table.get(index).to_plain();
@@ -52,7 +52,7 @@ fn other_entry(table: &L2Table, cluster: u64) -> Option<(usize, u64)> {
     None
 }
 
-// The table's cluster, and whether it is modified.
+// Returns the table's cluster, and whether it is modified.
 fn placed(table: &L2Table) -> (Option<HostCluster>, bool) {
     (table.get_cluster(), table.is_modified())
 }
@@ -82,7 +82,7 @@ fn a_table_that_is_read_again_has_the_entries_that_are_there(rt: HostRuntime) ->
     check_reloaded(rt.alloc(), 21)
 }
 
-// Fails unless the call that comes after some others is refused, and the same call is done then.
+// Fails unless the load is refused at the storage call after the first `passes`, and succeeds when repeated.
 fn check_refused(
     image: &mut FailingStorage<MemStorage>,
     table: &mut L2Table,
@@ -106,7 +106,7 @@ fn a_refused_read_leaves_a_table_without_a_cluster(rt: HostRuntime) -> Result<()
     Ok(())
 }
 
-// A number in the table at cluster 1 of an image whose other bytes are zero, its index, and the fault.
+// An entry in the table at cluster 1 of an image whose other bytes are zero, its index, and the fault.
 #[derive(Clone, Copy, Debug)]
 struct Damaged {
     index: u64,

@@ -1,4 +1,4 @@
-//! Tables of the most entries that their kind may have, and tables of images in real files.
+//! Tables with the most entries of their kind, and tables of images in real files.
 
 use super::fixtures::{
     DISK, NUMBER, State, check_table, check_written_as, disk_of, load, loaded, table_with,
@@ -16,12 +16,12 @@ fn open(rt: &HostRuntime, path: &str) -> Result<FileStorage<File>, Fault> {
     FileStorage::open(rt, path, true)
 }
 
-// The table of which only the last of the most entries isn't 0.
+// Returns the state of an L1 table with the most entries, of which only the last isn't 0.
 fn largest() -> State {
     loaded(4194304, 4194303, NUMBER).placed(Some(8), false)
 }
 
-// That table, which begins at byte 4096 of a file. The file then has zeros before the last entry.
+// Loads that table from byte 4096 of a file on. The file then has zeros before the last entry.
 fn largest_table(rt: &HostRuntime, path: &str) -> Result<L1Table, Fault> {
     let mut image = open(rt, path)?;
     put(&mut image, 4096 + 8 * 4194303, NUMBER)?;
@@ -54,14 +54,14 @@ fn an_l1_table_of_the_most_entries_goes_from_file_to_file(rt: HostRuntime) -> Re
     check_same(&rt, file.path.as_str(), other.path.as_str())
 }
 
-// Loads the table at a cluster of a file, of which entry 3 alone may not be 0.
+// Loads the table at a cluster of a file, in which only entry 3 may differ from 0.
 fn check_loaded(rt: &HostRuntime, path: &str, cluster: u64, number: u64) -> Result<(), Fail> {
     let table: L2Table = load(rt.alloc(), &mut open(rt, path)?, DISK, cluster, 64)?;
     let state = loaded(64, 3, number).placed(Some(cluster), false);
     check_table(&table, state, cluster)
 }
 
-// Two clusters of 0xa5, and a table that ends with its entry 3.
+// Returns two clusters of bytes 0xa5, and a table that ends with its entry 3.
 fn cut_table(alloc: Global) -> Result<MemStorage, Fault> {
     let mut image = filled_image(alloc, 1024)?;
     put_bytes(&mut image, 1024, &[0; 24])?;
@@ -69,7 +69,7 @@ fn cut_table(alloc: Global) -> Result<MemStorage, Fault> {
     Ok(image)
 }
 
-// The file ends within the table at cluster 2 or before the others.
+// Loads three tables: the file ends within the one at cluster 2, and before the others.
 fn check_both_loaded(rt: &HostRuntime, path: &str, bytes: &[u8]) -> Result<(), Fail> {
     check_loaded(rt, path, 2, NUMBER)?;
     check_loaded(rt, path, 3, 0)?;
@@ -84,7 +84,7 @@ fn a_load_near_the_end_of_a_writable_file_leaves_the_file(rt: HostRuntime) -> Re
     check_both_loaded(&rt, file.path.as_str(), image.bytes())
 }
 
-// 0xa5 but for the table that begins at byte 2097152 with zeros.
+// Returns an image of bytes 0xa5, except the table that begins at byte 2097152 with zeros.
 fn largest_l2_table(alloc: Global) -> Result<MemStorage, Fault> {
     let mut image = filled_image(alloc, 2097152)?;
     put(&mut image, 4194296, NUMBER)?;
@@ -96,7 +96,7 @@ fn largest_of_l2() -> State {
     loaded(262144, 262143, NUMBER).placed(Some(1), false)
 }
 
-// Writes the table, and reads it back.
+// Writes the table, and loads it again.
 fn check_round_trip(table: &mut L2Table) -> Result<(), Fail> {
     let alloc = table.allocator();
     let mut image = filled_image(alloc, 4194312)?;

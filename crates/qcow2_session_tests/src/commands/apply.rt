@@ -1,4 +1,4 @@
-//! The command `apply`: what it prints and leaves, and what it refuses.
+//! The command `apply`: its output, its effect on the image, and its refusals.
 
 use super::run::Ended::{self, Done, Failed};
 use super::whole_images::{RUN, Run, check_runs};
@@ -6,10 +6,10 @@ use crate::failing_output::Failure::{Flush, WriteAfter};
 use qcow2_testing::{COPIED, Numbers, counted, rows};
 use std::test::Fail;
 
-// The sample image with counters, and a seventh cluster, 6, which is free.
+// The sample image with refcounts and a seventh cluster, 6, which is free.
 const BOOKS: Numbers<'static> = counted! { (0xdf8, 0) };
 
-// The same where guest cluster 3 has no data, and cluster 5 is free.
+// The same without data in guest cluster 3, and with cluster 5 free.
 const DISCARDED: Numbers<'static> =
     counted! { (0xdf8, 0), (0x418, 0), (0x808, 0x0001_0000_0000_0000) };
 
@@ -18,7 +18,7 @@ const ZEROED: Numbers<'static> =
 
 const KEPT: Numbers<'static> = counted! { (0xdf8, 0), (0x418, COPIED + 0xa01) };
 
-// Guest cluster 0 is the data in cluster 6.
+// Data of guest cluster 0 in cluster 6.
 const MAPPED: Numbers<'static> = counted! {
     (0xdf8, 0), (0x400, COPIED + 0xc00), (0x808, 0x0001_0001_0001_0000)
 };
@@ -27,7 +27,7 @@ const MAPPED_AND_DISCARDED: Numbers<'static> = counted! {
     (0xdf8, 0), (0x400, COPIED + 0xc00), (0x418, 0), (0x808, 0x0001_0000_0001_0000)
 };
 
-// The counter of cluster 5 is 2, and 1 once a reference is gone.
+// Cluster 5 with refcount 2, and with refcount 1 after it lost a reference.
 const TWICE: Numbers<'static> = counted! { (0x808, 0x0001_0002_0000_0000) };
 
 const ONCE: Numbers<'static> = counted! { (0x418, 0), (0x9f8, 0) };
@@ -59,7 +59,7 @@ const MADE: &[Run<'static>] = rows! {
         after: MAPPED_AND_DISCARDED, ..RUN },
 };
 
-// What stays, and outputs that fail.
+// A kept cluster, an unmapped one, a cleared autoclear feature, and failing outputs.
 const KEPT_AND_FAILED: &[Run<'static>] = rows! {
     Run { line: "apply IMAGE discard:0x600", before: TWICE, ended: Done("kept 5 1\n"), after: ONCE, ..RUN },
     Run { line: "apply IMAGE discard:0", before: BOOKS, ended: Done(""), after: BOOKS, ..RUN },
@@ -81,23 +81,24 @@ const PLANNED: &[Run<'static>] = rows! {
     Run { line: "apply IMAGE plan zero:0:512", before: NO_TABLE, ended: NOT_PLACED, after: NO_TABLE, ..RUN },
 };
 
-// An extension that says of three bitmaps where they lie. By the autoclear bit they agree with the disk.
+// A bitmaps extension with three bitmaps. By the autoclear bit they agree with the disk.
 const BITMAPS: Numbers<'static> = counted! {
     (0xdf8, 0), (88, 1), (104, 0x2385_2875_0000_0018), (112, 3 << 32), (120, 96), (128, 0x1000),
 };
 
-// The same where they don't by that bit. By the next one an external data file is raw.
+// The same without that autoclear bit, so that they don't agree. The next bit marks an external data file as
+// raw.
 const STALE: Numbers<'static> = counted! {
     (0xdf8, 0), (88, 2), (104, 0x2385_2875_0000_0018), (112, 3 << 32), (120, 96), (128, 0x1000),
 };
 
-// Another extension, and then one of them with the greatest number.
+// Another extension, and then a bitmaps extension with the largest number.
 const SECOND: Numbers<'static> = counted! {
     (0xdf8, 0), (88, 3), (104, 0x2385_2876_0000_0004), (112, 1 << 32), (120, 0x2385_2875_0000_0004),
     (128, 0xffff_ffff_0000_0000),
 };
 
-// One of three bytes, which say no number.
+// A bitmaps extension of three bytes, too short for a number.
 const CUT: Numbers<'static> = counted! {
     (0xdf8, 0), (88, 1), (104, 0x2385_2875_0000_0003), (112, 0x0000_0300_0000_0000),
 };
@@ -140,14 +141,14 @@ const UNFIT: &[Run<'static>] = rows! {
 };
 
 const REFUSED: &[Run<'static>] = rows! {
-    // a table that isn't there, belongs to a snapshot too, or is damaged
+    // a table that doesn't exist, belongs to a snapshot, too, or is damaged
     Run { line: "apply IMAGE zero:0:512", before: NO_TABLE, ended: NOT_PLACED, after: NO_TABLE, ..RUN },
     Run { line: "apply IMAGE discard:0", before: NO_TABLE, ended: Done(""), after: NO_TABLE, ..RUN },
     Run { line: "apply IMAGE discard:0x600", before: NOT_COPIED, ended: Failed("", "qmeta: fault 40\n"),
         after: NOT_COPIED, ..RUN },
     Run { line: "apply IMAGE discard:0x600", before: BAD_ENTRY, ended: Failed("", "qmeta: fault 18\n"),
         after: BAD_ENTRY, ..RUN },
-    // a counter that is too small already, an external data file, and no header
+    // a refcount that is too low already, an external data file, and no header
     Run { line: "apply IMAGE discard:0x600", before: UNCOUNTED, ended: Failed("", "qmeta: fault 30\n"),
         after: UNCOUNTED, ..RUN },
     Run { line: "apply IMAGE map:0:99", before: EXTERNAL, ended: Failed("", "qmeta: fault 36\n"),
@@ -156,8 +157,8 @@ const REFUSED: &[Run<'static>] = rows! {
         after: &[(0, 0)], ..RUN },
 };
 
-// An L1 table that is too short for the disk, and tables past the file's end, by edits of other tables
-// too. The file has seven clusters, or what a row says.
+// An L1 table that is too short for the disk, and tables past the file's end, also for edits of other tables.
+// The file has seven clusters.
 const BY_FILE: &[Run<'static>] = rows! {
     Run { line: "apply IMAGE discard:0x600", before: LONG_DISK, ended: SHORT, after: LONG_DISK, ..RUN },
     Run { line: "apply IMAGE plan discard:0x600", before: LONG_DISK, ended: SHORT, after: LONG_DISK, ..RUN },
@@ -171,10 +172,10 @@ const BY_FILE: &[Run<'static>] = rows! {
         after: FAR_AND_SNAPSHOTS, ..RUN },
 };
 
-// A disk of one byte more than the L1 table has.
+// A disk that is one byte longer than the L1 table covers.
 const LONG_DISK: Numbers<'static> = counted! { (24, 32769), (0xdf8, 0) };
 
-// The second L2 table is right after the file's end.
+// A second L2 table right after the file's end.
 const FAR_TABLE: Numbers<'static> =
     counted! { (24, 65536), (32, 2), (0x208, COPIED + 0xe00), (0xdf8, 0) };
 

@@ -1,4 +1,4 @@
-//! The command `check`: its lines and its statuses over images with damages, and which images it refuses.
+//! The command `check` on damaged images: its lines, its statuses, and its refusals.
 
 use super::in_memory::run_command;
 use super::run::Ended::{self, Done, Failed, Harmful, Harmless};
@@ -14,7 +14,7 @@ use qcow2_testing::{Numbers, each, same};
 use std::alloc::Global;
 use std::test::Fail;
 
-/// What is thought of an image with this damage.
+/// Returns the verdict on an image with this damage.
 pub(super) fn verdict_of(row: &Damage) -> Verdict {
     let totals = row.totals();
     let is_harmful = totals.missing > 0 || totals.shared > 0 || totals.false_flags > 0;
@@ -73,7 +73,7 @@ fn check_statuses(rt: &HostRuntime, rows: &[Damage]) -> Result<(), Fail> {
     Ok(())
 }
 
-// A check of an image that is as before then.
+// Returns a run of a check that leaves its image unchanged.
 fn run_over<'a>(before: Numbers<'a>, ended: Ended<'a>) -> Run<'a> {
     Run {
         line: "check IMAGE",
@@ -84,7 +84,7 @@ fn run_over<'a>(before: Numbers<'a>, ended: Ended<'a>) -> Run<'a> {
     }
 }
 
-/// What a check ends with.
+/// Returns the end of a check with this verdict and output.
 pub(crate) fn ended_by(verdict: Verdict, text: &str) -> Ended<'_> {
     match verdict {
         Verdict::Fine => Done(text),

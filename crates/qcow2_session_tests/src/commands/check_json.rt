@@ -1,4 +1,4 @@
-//! The command `check` in JSON: its numbers, the name of the file, and what it thinks of an image.
+//! The command `check` in JSON: its numbers, the file name, and its verdict.
 
 use super::check::verdict_of;
 use crate::failing_output::{FailingOutput, Failure};
@@ -12,14 +12,14 @@ use qcow2_testing::{counted, each, rows, same};
 use std::alloc::{AllocError, Global};
 use std::test::Fail;
 
-/// What the command prints of the image of all kinds, by the word `IMAGE`.
+/// The output for the image with findings of all kinds, with `IMAGE` as the file name.
 pub(crate) const ALL_OBJECT: &str =
     "{\n    \"image-end-offset\": 5120,\n    \"total-clusters\": 64,\n    \
     \"corruptions\": 3,\n    \"check-errors\": 0,\n    \"leaks\": 3,\n    \"shared\": 1,\n    \
     \"false-flags\": 1,\n    \"late-flags\": 1,\n    \"allocated-clusters\": 2,\n    \
     \"filename\": \"IMAGE\",\n    \"format\": \"qcow2\",\n    \"fragmented-clusters\": 1\n}\n";
 
-/// And of that with late flags of two tables.
+/// The output for the image with late flags of two tables.
 pub(crate) const LATE_OBJECT: &str =
     "{\n    \"image-end-offset\": 4096,\n    \"total-clusters\": 128,\n    \
     \"corruptions\": 4,\n    \"check-errors\": 0,\n    \"late-flags\": 4,\n    \
@@ -58,7 +58,7 @@ fn checked(
     check_image_in_json(alloc, image, &header, file_name, out)
 }
 
-// What is printed of an image in the file `disk`. Counts that are 0 have no member.
+// Returns the output for an image in the file `disk`. Counts of 0 have no member.
 fn object_of(alloc: Global, row: &Damage) -> Result<String, AllocError> {
     let (sizes, totals) = (row.sizes, row.totals());
     let corruptions = totals
@@ -89,7 +89,7 @@ fn add_count(text: &mut String, name: &str, count: u64) -> Result<(), AllocError
     write!(text, ",\n    \"{name}\": {count}")
 }
 
-// The name of a file, and the string that is printed of it.
+// The name of a file, and its text in a JSON string.
 #[derive(Clone, Copy)]
 struct Named {
     name: &'static str,

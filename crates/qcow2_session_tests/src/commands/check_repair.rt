@@ -1,4 +1,4 @@
-//! The command `check` with a repair: what it leaves of an image and finds in it then, and what it refuses.
+//! The command `check` with a repair: the image afterwards, the findings left in it, and refusals.
 
 use super::check::ended_by;
 use super::run::Ended::Failed;
@@ -27,7 +27,7 @@ fn check_all_repaired(rt: &HostRuntime, rows: &[Repair]) -> Result<(), Fail> {
     Ok(())
 }
 
-// What a repair leaves may destroy data.
+// Runs a repair. If the image isn't consistent afterwards, the verdict is `Harmful`.
 fn check_repaired(rt: &HostRuntime, row: &Repair) -> Result<(), Fail> {
     let verdict = match row.is_consistent() {
         true => Verdict::Fine,
@@ -63,8 +63,8 @@ fn check_refused(rt: &HostRuntime, row: &Unrepairable) -> Result<(), Fail> {
     check_run(rt, row.name, &run)
 }
 
-// Tables past the file's end. The file has five clusters, the last of which is cut, or the number that a row
-// says.
+// Tables past the file's end. The file has five clusters, the last of them incomplete, or the number that a
+// row names.
 const PAST_END: &[Unrepairable] = rows! { Unrepairable:
     { name: "an L2 table", changes: counted! { AUTOCLEAR, (TABLE_ENTRY, COPIED + 0x1_0000) },
         fault: Fault::TablePlace },
@@ -77,7 +77,7 @@ const PAST_END: &[Unrepairable] = rows! { Unrepairable:
     { name: "the second cluster of the L1 table, after six",
         changes: counted! { (32, 65), (40, 0xa00), (0xa00, 0) }, fault: Fault::TablePlace },
     { name: "the L1 table", changes: counted! { (40, 0xa00) }, fault: Fault::TablePlace },
-    // what a check refuses first
+    // faults that a check finds first
     { name: "snapshots and an L2 table",
         changes: counted! { (56, 1 << 32 | 1), (TABLE_ENTRY, COPIED + 0x1_0000) }, fault: SNAPSHOTS },
     { name: "a bad L1 entry and an L2 table",

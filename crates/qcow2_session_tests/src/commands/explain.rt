@@ -1,4 +1,4 @@
-//! Lines on where in an image a fault is.
+//! The lines of `explain` on the place of a fault in an image.
 
 use super::run::Ended::{self, Done, Failed};
 use super::run::{Failures, NO_FAILURES, check_line, run_line};
@@ -16,7 +16,7 @@ use std::alloc::Global;
 use std::fs;
 use std::test::Fail;
 
-// A fault, changes of the sample image, and the lines on where the fault is.
+// A fault, changes of the sample image, and the lines on the fault's place.
 #[derive(Clone, Copy)]
 struct Row {
     fault: Fault,
@@ -32,13 +32,13 @@ const OF_COMMANDS: &[Row] = rows! { Row:
 };
 
 const COUNTERS: &[Row] = rows! { Row:
-    // an autoclear feature, and a name that would not fit after the unknown fields
+    // an autoclear feature, and a name that wouldn't fit after the unknown fields
     { fault: Fault::HeaderTooLong,
         before: &[(8, 1), (16, 0x0000_0002_0000_0009), (88, 1), (96, 0x0000_0004_0000_01f8)],
         lines: "in IMAGE: byte 88: autoclear_features is 0x1\nin IMAGE: byte 16: backing_file_size is 2\n" },
     { fault: Fault::CounterRange, before: counted!((0x808, 0x0001_0000_0000_0000)),
         lines: "in IMAGE: cluster 5: its counter is 0, and it has 1 uses\n" },
-    // the L2 table in cluster 2 is data too
+    // the L2 table in cluster 2 is data, too
     { fault: Fault::Overlap, before: counted!((1048, COPIED + 0x400)),
         lines: "in IMAGE: cluster 2: its counter is 1, and it has 2 uses\n" },
     { fault: Fault::Shared(0), before: counted!((512, 0x400)),
@@ -60,13 +60,13 @@ const OTHERS: &[Row] = rows! { Row:
     { fault: Fault::TablePlace, before: &[(512, COPIED + 0x401)],
         lines: "in IMAGE: another fault comes first, 18\n\
             in IMAGE: L1 entry 0, bytes at 0x200: 8000000000000401\n" },
-    // the fault that is asked for comes after another one
+    // the requested fault comes after another one
     { fault: Fault::TablePlace, before: counted!((0x608, 1 << 56), (1528, 2)),
         lines: "in IMAGE: refcount table entry 1, bytes at 0x608: 0100000000000000\n" },
 };
 
-// The bits of larger clusters, changes of the sample image with these, and the lines on a bad entry 3 of the
-// second L2 table. It is that of guest cluster 2^(bits - 3) + 3, since a table has a cluster of entries.
+// The cluster bits of larger clusters, changes of the sample image with these, and the lines on a bad entry 3
+// of the second L2 table. It is the entry of guest cluster 2^(bits - 3) + 3, since a table fills a cluster.
 const LARGER: &[(u32, Numbers<'static>, &str)] = rows! {
     (12, &[(32, 2), (0x1008, COPIED + 0x3000), (0x3018, 2)],
         "in IMAGE: guest offset 0x203000, L2 entry at 0x3018: 0000000000000002\n"),
@@ -132,7 +132,7 @@ fn a_fault_that_is_not_there_is_told_so(rt: HostRuntime) -> Result<(), Fail> {
     each(rt.alloc(), OTHERS, check_place)
 }
 
-// The image stays as it is.
+// Checks the lines on a fault, and that the image stays.
 fn check_place(alloc: Global, row: Row) -> Result<(), Fail> {
     let mut image = sample_image(alloc, 9, row.before)?;
     let lines = locate_fault(alloc, &mut image, row.fault, "IMAGE")?;
@@ -141,7 +141,7 @@ fn check_place(alloc: Global, row: Row) -> Result<(), Fail> {
     same_bytes(image.bytes(), before.bytes(), row.lines)
 }
 
-// A fault, how a file is opened and what path is asked for, and the lines.
+// A fault, the path of the image, and the lines.
 const MISSING: &[(u64, &str, &str)] = rows! {
     (34, "no-such-folder/image", "in IMAGE: No such file or directory (os error 2)\n"),
     (34, "/", "in IMAGE: is a directory\n"),
@@ -160,7 +160,7 @@ fn a_file_that_is_no_image_is_told_by_the_system_s_word(rt: HostRuntime) -> Resu
     Ok(())
 }
 
-// Its clusters would have 2^30 bytes. The file stays as it is.
+// The image's clusters would have 2^30 bytes. The file stays.
 #[test]
 fn the_text_of_a_fault_comes_before_its_place(rt: HostRuntime) -> Result<(), Fail> {
     let before: Numbers<'_> = &[(16, 30)];
@@ -190,7 +190,8 @@ fn the_text_of_a_fault_comes_before_its_place(rt: HostRuntime) -> Result<(), Fai
     check_sample(rt.alloc(), &found, (9, before), "explain")
 }
 
-// Asks where a fault is in the file at a path, and fails unless its text is printed and then these lines.
+// Runs `explain` on a fault and the file at a path, and fails unless it prints the fault's text and then
+// these lines.
 fn check_answer(
     files: &mut FaultyFiles<'_, HostRuntime>,
     path: &str,
@@ -238,7 +239,7 @@ fn a_failing_output_keeps_a_beginning_of_the_text(rt: HostRuntime) -> Result<(),
     Ok(())
 }
 
-// The first bytes of the file of a sample image with changes, and the lines on fault 21.
+// A file with the first `len` bytes of the sample image with changes, and the lines on fault 21.
 #[derive(Clone, Copy)]
 struct Cut {
     before: Numbers<'static>,
@@ -251,14 +252,14 @@ const PAST_END: &[Cut] = rows! { Cut:
     { before: counted!((32, 65)), len: 0x400,
         lines: "in IMAGE: byte 36: l1_size is 65\nin IMAGE: byte 40: l1_table_offset is 0x200\n\
             in IMAGE: the file ends at 0x400\n" },
-    // the L2 table lies there too
+    // the L2 table lies past the end, too
     { before: counted! {}, len: 0x400,
         lines: "in IMAGE: byte 56: refcount_table_clusters is 1\n\
             in IMAGE: byte 48: refcount_table_offset is 0x600\nin IMAGE: the file ends at 0x400\n" },
     { before: counted! {}, len: 0x600,
         lines: "in IMAGE: byte 56: refcount_table_clusters is 1\n\
             in IMAGE: byte 48: refcount_table_offset is 0x600\nin IMAGE: the file ends at 0x600\n" },
-    // a refcount table whose cluster is cut after the entry of the block
+    // a refcount table that is truncated after the entry of the block
     { before: counted! {}, len: 0x608,
         lines: "in IMAGE: refcount table entry 0, bytes at 0x600: 0000000000000800\n\
             in IMAGE: the file ends at 0x608\n" },
@@ -288,7 +289,7 @@ fn check_cut(rt: &HostRuntime, row: Cut) -> Result<(), Fail> {
     check_answer(&mut files, file.path.as_str(), 21, row.lines)
 }
 
-// The file of a row.
+// Returns the file of a row.
 fn cut_file(rt: &HostRuntime, row: Cut) -> Result<TemporaryFile<'_, HostRuntime>, Fail> {
     let image = sample_image(rt.alloc(), 9, row.before)?;
     temporary_file(rt, "explain-cut", part_of(image.bytes(), 0, row.len)?)
@@ -302,10 +303,10 @@ const ONE_CLUSTER: Cut = Cut {
         in IMAGE: the file ends at 0x200\n",
 };
 
-// A file is opened twice, and its kind is looked at by one call each time. Then the header is read by four,
-// the length is asked for by one, and the page with the tables is read by five, since a read sets the place
-// before it asks for bytes. At the page's end the file gives none, and its length is asked for. A place past
-// the end need not be one that it can be set to.
+// The failing calls, by the number of calls before them. A file is opened twice, each time with one call for
+// its kind, and each open counts anew. After the second, four calls read the header, one asks for the length,
+// and five read the page with the tables: a read seeks before it reads bytes, and asks for the length once
+// the file returns none. The seek to the end, after 8 calls, may fail.
 const REFUSED: &[u64] = &[1, 2, 3, 4, 5, 6, 7, 9, 10];
 
 #[test]

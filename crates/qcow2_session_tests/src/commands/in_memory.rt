@@ -1,4 +1,4 @@
-//! Commands over an image in memory, by the words that ask for them.
+//! Commands over an image in memory, given by their lines.
 
 use super::known_host::KnownHost;
 use super::run::words_of;
@@ -11,8 +11,8 @@ use qcow2_testing::{COPIED, KnownFile, KnownFiles, Numbers, counted, each, pictu
 use std::alloc::Global;
 use std::test::Fail;
 
-// A line, changes of the sample image, what the command returns and prints, and how the image differs from
-// the sample image then.
+// A line, changes of the sample image, the result and the output of the command, and the changes of the
+// sample image afterwards.
 #[derive(Clone, Copy)]
 struct Row {
     line: &'static str,
@@ -30,7 +30,7 @@ const ROW: Row = Row {
     after: &[],
 };
 
-/// What a command returns, or nothing where the words are none.
+/// The result of a command, or `None` if the words are no command.
 pub(crate) type Answer = Option<Result<Verdict, Fault>>;
 
 const DONE: Answer = Some(Ok(Verdict::Fine));
@@ -41,7 +41,8 @@ const LAYOUT: &str =
 const LEAKY: &str = "0 1 header\n1 1 l1\n2 1 l2\n3 1 refcount-table\n4 1 refcount-block\n\
     5 1 data 0x600\n6 5 free\n11 1 leaked\n";
 
-// Header, L1 and L2 table, refcount table and block, data of the first eighth, free clusters, a leaked one.
+// Header, L1 table and L2 table; refcount table and block; data of the first eighth of the disk; free
+// clusters; and a leaked one.
 const PICTURE: &str = picture!(
     "\
 <path class='s10' d='M0 0h3v1h-3z'/>
@@ -52,7 +53,7 @@ const PICTURE: &str = picture!(
 "
 );
 
-// Commands by a table or a block.
+// Commands on a table, a block or the header.
 const BY_TABLE: &[Row] = rows! {
     Row { line: "l2 IMAGE 9 2", before: &[(0, 0)], printed: "3 data 0xa00 copied\n", after: &[(0, 0)],
         ..ROW },
@@ -69,9 +70,9 @@ const BY_TABLE: &[Row] = rows! {
         ..ROW },
 };
 
-// Commands that print where tables and clusters are.
+// Commands that print the places of tables and clusters.
 const PLACES: &[Row] = rows! {
-    // a table of 64 entries maps 32 KiB, and a block of 256 counters counts from cluster 0 on
+    // a table of 64 entries maps 32 KiB, and a block of 256 refcounts counts from cluster 0 on
     Row { line: "tables IMAGE", before: counted!((88, 1)), printed: TABLE_LINES, after: counted!((88, 1)),
         ..ROW },
     // the header names no refcount table
@@ -85,7 +86,7 @@ const PLACES: &[Row] = rows! {
     Row { line: "layout IMAGE", before: counted!((88, 1)), printed: LAYOUT, after: counted!((88, 1)), ..ROW },
     // without a block no cluster is leaked
     Row { line: "layout IMAGE", printed: "0 1 header\n1 1 l1\n2 1 l2\n3 2 free\n5 1 data 0x600\n", ..ROW },
-    // cluster 11 has a counter and no use
+    // cluster 11 has refcount 1 and no reference
     Row { line: "layout IMAGE", before: counted!((0x810, 1)), printed: LEAKY, after: counted!((0x810, 1)),
         ..ROW },
     Row { line: "layout IMAGE", before: counted!((0x608, 1 << 56)), answer: Some(Err(Fault::TablePlace)),
@@ -98,7 +99,7 @@ const PLACES: &[Row] = rows! {
     Row { line: "layout IMAGE svg svg", answer: None, ..ROW },
 };
 
-// Commands that print counters and extents, and lines that are no commands.
+// Commands that print refcounts and extents, and lines that are no commands.
 const OTHERS: &[Row] = rows! {
     // the last number is that of a cluster past the refcount table's end
     Row { line: "refcount IMAGE 5 0 5 6 18446744073709551615", before: counted!((88, 1)),
@@ -108,14 +109,14 @@ const OTHERS: &[Row] = rows! {
     Row { line: "refcount IMAGE 0", printed: "0 0\n", ..ROW },
     Row { line: "refcount IMAGE 0", before: counted!((0x600, 0x801)), answer: Some(Err(Fault::EntryReserved)),
         after: counted!((0x600, 0x801)), ..ROW },
-    // a block that no word needs ends past 2^56
+    // a block that no argument needs ends past 2^56
     Row { line: "refcount IMAGE 0", before: counted!((0x608, 1 << 56)), answer: Some(Err(Fault::TablePlace)),
         after: counted!((0x608, 1 << 56)), ..ROW },
     Row { line: "refcount IMAGE", answer: None, ..ROW },
     Row { line: "refcount IMAGE 0 -1", answer: None, ..ROW },
     Row { line: "map IMAGE", printed: EXTENTS, ..ROW },
     Row { line: "map IMAGE json", printed: JSON, ..ROW },
-    // a bit that is reserved in the last entry of the L2 table: `[` is printed, and no extent
+    // a reserved bit in the last entry of the L2 table: `[` is printed, and no extent
     Row { line: "map IMAGE json", before: &[(1528, 2)], answer: Some(Err(Fault::EntryReserved)), printed: "[",
         after: &[(1528, 2)], ..ROW },
     Row { line: "map IMAGE yaml", answer: None, ..ROW },
@@ -124,7 +125,7 @@ const OTHERS: &[Row] = rows! {
     Row { line: "edit IMAGE 0 map:3", answer: None, ..ROW },
 };
 
-// Rows of all commands.
+// Returns the rows of all commands.
 fn all_rows() -> [&'static [Row]; 3] {
     [BY_TABLE, PLACES, OTHERS]
 }
@@ -146,10 +147,10 @@ fn check_row(alloc: Global, row: Row) -> Result<(), Fail> {
     check_sample(alloc, image.bytes(), (9, row.after), row.line)
 }
 
-// How many bytes a file is read and written by at a time.
+// The number of bytes that a file reads or writes at a time.
 const STEP: usize = 100;
 
-// More bytes than the image of any row has.
+// More bytes than any row's image has.
 const WHOLE: usize = 8192;
 
 #[test]
@@ -222,7 +223,7 @@ fn check_words(alloc: Global, row: Row) -> Result<(), Fail> {
     check_sample(alloc, host.images.bytes(), (9, row.after), row.line)
 }
 
-// The status of a line whose command returns that, if it is one.
+// Returns the status of a line by its result.
 fn status_of(answer: Answer) -> u8 {
     match answer {
         Some(Ok(verdict)) => verdict.status(),
@@ -231,7 +232,7 @@ fn status_of(answer: Answer) -> u8 {
     }
 }
 
-// What is on standard error then.
+// Returns the text on standard error for a result.
 fn reported(alloc: Global, answer: Answer) -> Result<String, Fail> {
     Ok(match answer {
         Some(Ok(_)) => String::new(alloc),
@@ -240,7 +241,7 @@ fn reported(alloc: Global, answer: Answer) -> Result<String, Fail> {
     })
 }
 
-// The command of a line, if it is one.
+// Returns the command of a line, if it is one.
 fn command_of(alloc: Global, line: &str) -> Result<Option<Result<Command, Fault>>, Fail> {
     let words = words_of(alloc, line, "IMAGE")?;
     let [name, path, arguments @ ..] = words.as_slice() else {
@@ -250,7 +251,7 @@ fn command_of(alloc: Global, line: &str) -> Result<Option<Result<Command, Fault>
     Ok(parsed.map(|command| command.map_err(Fault::from)))
 }
 
-/// What the command of a line returns.
+/// Runs the command of a line, if it is one, and returns its result.
 pub(crate) fn run_command<S: Device>(
     alloc: Global,
     image: &mut S,

@@ -1,4 +1,4 @@
-//! A system that has no files but the known ones in memory that images lie in.
+//! A system whose only files are images in memory, with known bytes.
 
 ghost use Rattle.qcow2_base.specs.Storage.ImageFiles.{ClosesImage};
 ghost use Rattle.qcow2_testing.specs.KnownFiles.{known_content, known_file_at};
@@ -11,7 +11,7 @@ use std::io;
 use std::io::{Empty, ErrorKind};
 use std::rt::Files;
 
-/// Opens images by their paths, and no file in another way.
+/// Opens images by their paths, and refuses all other operations on files.
 #[derive(Drop)]
 pub(crate) struct KnownHost {
     alloc: Global,
@@ -19,7 +19,7 @@ pub(crate) struct KnownHost {
 }
 
 impl KnownHost {
-    /// A system whose images are these bytes, read and written that many at a time.
+    /// Returns a system whose images have these bytes, read and written `step` at a time.
     pub(crate) fn new(alloc: Global, bytes: Vec<u8>, step: usize) -> KnownHost {
         KnownHost {
             alloc,
@@ -53,7 +53,7 @@ impl ImageFiles for KnownHost {
     }
 }
 
-// What an operation fails with that needs another file.
+// Fails an operation that needs another file.
 fn no_other<T>() -> io::Result<T> {
     Err(ErrorKind::Unsupported.into())
 }

@@ -1,4 +1,4 @@
-//! Lines of words: which one thing each asks for.
+//! Lines of words, and the request of each.
 
 use super::run::words_of;
 use qcow2_session::Request;
@@ -6,7 +6,7 @@ use qcow2_testing::{each, rows, same};
 use std::alloc::Global;
 use std::test::Fail;
 
-// What a line asks for.
+// The kind of a request.
 #[derive(Clone, Copy, Debug, PartialEq)]
 enum Asked<'a> {
     Text,
@@ -29,7 +29,7 @@ impl<'a> Asked<'a> {
 
 const IMAGE: Asked<'static> = Asked::Command("image");
 
-// A line, and what it asks for.
+// A line, and the kind of its request.
 type Row = (&'static str, Asked<'static>);
 
 const ROWS: &[Row] = rows! {
@@ -45,13 +45,13 @@ const ROWS: &[Row] = rows! {
     ("explain 3", Asked::Text),
     ("explain 3 IMAGE", Asked::Question),
     ("explain 3 --help", Asked::Question),
-    // some commands take any name for that of an image
+    // some commands take any word as the name of an image
     ("info --help", Asked::Command("--help")),
     ("info IMAGE", IMAGE),
     ("check IMAGE repair", IMAGE),
     ("edit IMAGE 0 discard:3", IMAGE),
     ("edit IMAGE 0 --help", Asked::Nothing),
-    // no words, texts that there are none of, and words too many
+    // no words, texts that don't exist, and too many words
     ("", Asked::Nothing),
     ("help nothing", Asked::Nothing),
     ("nothing --help", Asked::Nothing),

@@ -1,4 +1,4 @@
-//! Lines of words: how a run of them ends over files and outputs that fail, and which are no command.
+//! Runs of lines over failing files and outputs, and lines that are no command.
 
 use super::whole_images::{RUN, Run, check_run};
 use crate::failing_output::{FailingOutput, Failure};
@@ -9,23 +9,23 @@ use std::alloc::Global;
 use std::rt::Files;
 use std::test::Fail;
 
-/// What a run ends with, by what was flushed of its outputs.
+/// The end of a run, with the flushed part of its outputs.
 #[derive(Clone, Copy, Debug, PartialEq)]
 pub(crate) enum Ended<'a> {
-    /// It printed this, and had no fault.
+    /// The output, without a fault.
     Done(&'a str),
-    /// It printed this, and found only what harms nobody.
+    /// The output, with harmless findings only.
     Harmless(&'a str),
-    /// It printed this, and found what may destroy data.
+    /// The output, with findings that may destroy data.
     Harmful(&'a str),
-    /// It printed this, and reported its fault by that.
+    /// The output, and the report of the fault.
     Failed(&'a str, &'a str),
-    /// It was no command, and reported that by this.
+    /// The report that the line is no command.
     NoCommand(&'a str),
 }
 
 impl<'a> Ended<'a> {
-    /// The status, and what was flushed of the output and of the error output.
+    /// Returns the status, and the flushed part of the output and of the error output.
     fn parts(self) -> (u8, &'a str, &'a str) {
         match self {
             Ended::Done(out) => (0, out, ""),
@@ -37,12 +37,12 @@ impl<'a> Ended<'a> {
     }
 }
 
-// Where the outputs of a run fail: that of its lines, and that of its faults.
+// The failures of a run's output and error output.
 pub(crate) type Failures = (Failure, Failure);
 
 pub(crate) const NO_FAILURES: Failures = (Failure::Never, Failure::Never);
 
-// The status of a run of a line over outputs that fail there, and these outputs then.
+// Runs a line over outputs with these failures, and returns the status and the outputs.
 pub(crate) fn run_line(
     files: &mut FaultyFiles<'_, HostRuntime>,
     image: &str,
@@ -56,8 +56,8 @@ pub(crate) fn run_line(
     Ok((status, out, err))
 }
 
-// The words of a line, each after one space, with the path of an image in place of the word `IMAGE`. An empty
-// line has none.
+// Returns the words of a line, separated by single spaces, with the path of an image in place of the word
+// `IMAGE`. An empty line has none.
 pub(crate) fn words_of(alloc: Global, line: &str, image: &str) -> Result<Vec<String>, Fail> {
     let mut words = Vec::new(alloc);
     if line.is_empty() {
@@ -70,7 +70,7 @@ pub(crate) fn words_of(alloc: Global, line: &str, image: &str) -> Result<Vec<Str
     Ok(words)
 }
 
-// Runs a line, and fails unless it ends so.
+// Runs a line, and fails unless it ends as expected.
 pub(crate) fn check_line(
     files: &mut FaultyFiles<'_, HostRuntime>,
     image: &str,
@@ -84,14 +84,14 @@ pub(crate) fn check_line(
     same((status, out, err), expected.parts(), line)
 }
 
-// Lines that are no command. A number is 1 to 20 digits that fit 64 bits.
+// Lines that are no command. A number has 1 to 20 digits and fits 64 bits.
 const NO_COMMANDS: &[&str] = rows! {
     // no words, wrong names, and options
     "", " ", " IMAGE 9 2", "L2 IMAGE 9 2", "l22 IMAGE 9 2", "IMAGE l2 9 2", "information IMAGE", "--list",
-    // a word too few, one too many, and numbers that no cluster has
+    // a word too few, one too many, and numbers that aren't cluster bits
     "l2", "l2 IMAGE", "l2 IMAGE 9", "l2 IMAGE 9 2 ", "l2 IMAGE 8 2", "l2 IMAGE 22 2", "l2 IMAGE 4294967305 2",
     "l2 IMAGE +9 2", "l2 IMAGE 000000000000000000009 2",
-    // words that are no number
+    // words that aren't numbers
     "l2 IMAGE 9 ", "l2 IMAGE 9 +2", "l2 IMAGE 9 -1", "l2 IMAGE 9 \t2", "l2 IMAGE 9 9\n", "l2 IMAGE 9 1_0",
     "l2 IMAGE 9 9.0", "l2 IMAGE 9 1e1", "l2 IMAGE 9 0x9", "l2 IMAGE 9 a", "l2 IMAGE 9 \u{0669}",
     "l2 IMAGE 9 18446744073709551616", "l2 IMAGE 9 000000000000000000002",
@@ -99,7 +99,7 @@ const NO_COMMANDS: &[&str] = rows! {
     "check", "check IMAGE ", "check IMAGE x", "check IMAGE 0", "check IMAGE Repair",
     "edit IMAGE", "edit IMAGE map:3:5", "edit IMAGE 0 map:3", "edit IMAGE 0 map:3:5:1", "edit IMAGE 0 map::5",
     "edit IMAGE 0 zero:3:1", "edit IMAGE 0 keep", "edit IMAGE 0 Discard:3", "edit IMAGE 0 discard:3 inc:3",
-    // edits of a disk: none, and words that say none
+    // edits of a disk: none, and malformed ones
     "apply", "apply IMAGE", "apply IMAGE plan", "apply IMAGE plan plan", "apply IMAGE discard:0 plan",
     "apply IMAGE plan:0", "apply IMAGE discard", "apply IMAGE discard:", "apply IMAGE discard:0:",
     "apply IMAGE discard:0:512:1", "apply IMAGE zero:0", "apply IMAGE keep:0", "apply IMAGE map:0",
@@ -109,7 +109,7 @@ const NO_COMMANDS: &[&str] = rows! {
     "apply IMAGE discard:0x0x0", "apply IMAGE discard:600h", "apply IMAGE discard:18446744073709551616",
     "count IMAGE", "count IMAGE 3 inc:", "count IMAGE 3 add:0", "count IMAGE 3 inc:+1",
     "count IMAGE 3 inc:0:1", "count IMAGE 3 inc:0 discard:0",
-    // a fault that there is none of, and words too many
+    // faults that don't exist, and too many words
     "explain 0 IMAGE", "explain 42 IMAGE", "explain x IMAGE", "explain +3 IMAGE", "explain IMAGE",
     "explain IMAGE 3", "explain 3 IMAGE IMAGE", "Explain 3 IMAGE",
 };
@@ -132,7 +132,7 @@ fn words_that_are_no_command_are_the_usage_line(rt: HostRuntime) -> Result<(), F
     Ok(())
 }
 
-// Lines that print the help of a command, and what says the same in other words.
+// Lines that print the help of a command, and other lines that print the same.
 const HELPS: &[(&str, &str)] = rows! {
     ("map --help", "help map"), ("map -h", "help map"), ("tables --help", "help tables"),
     ("tables -h", "help tables"), ("layout --help", "help layout"), ("layout -h", "help layout"),
@@ -161,7 +161,7 @@ const NO_OPENS: Opens = Opens {
     other: 0,
 };
 
-// Names of commands and of images, and whether they ask for a command of that image with no words more.
+// Names of commands and of images, and whether these two words alone are a command on that image.
 const NAMED: &[(&str, &str, bool)] = rows! {
     ("info", "--help", true), ("info", "-h", true), ("list", "--help", true), ("list", "-h", true),
     ("map", "--help", false), ("map", "-h", false), ("map", "-help", true), ("map", "--hel", true),
@@ -180,7 +180,7 @@ fn check_named(alloc: Global, (name, image, expected): (&str, &str, bool)) -> Re
     same((command.is_some(), image), (expected, image), name)
 }
 
-// With words more, an image may have any name.
+// Before further words, an image may have any name.
 #[test]
 fn a_word_for_help_before_others_is_an_image(rt: HostRuntime) -> Result<(), Fail> {
     for line in [
@@ -197,7 +197,8 @@ fn a_word_for_help_before_others_is_an_image(rt: HostRuntime) -> Result<(), Fail
     Ok(())
 }
 
-// On an output that takes all, one that takes three bytes a call, and one that is interrupted once.
+// Checks the report on an output that takes everything, one that takes three bytes a call, and one that is
+// interrupted once.
 fn check_reported(alloc: Global, fault: ReportedFault) -> Result<(), Fail> {
     check_reported_on(alloc, Failure::Never, fault)?;
     check_reported_on(alloc, Failure::Short, fault)?;

@@ -1,4 +1,4 @@
-//! The commands over whole images: what they print, and what the file is then.
+//! The commands over whole images: their output, and the file afterwards.
 
 use super::run::Ended::{self, Done, Failed, NoCommand};
 use super::run::{NO_COMMAND, NO_FAILURES, check_line};
@@ -21,7 +21,7 @@ const DATA_LINE: &str = "data 0xa00 copied\n";
 
 const BACKING: &str = "backing 0x0\n";
 
-// What runs end with that print nothing: the first has no fault.
+// The ends of runs that print nothing, the first without a fault.
 const SILENT: Ended<'static> = Done("");
 
 const BAD_ENTRY: Ended<'static> = Failed("", "qmeta: fault 18\n");
@@ -36,7 +36,7 @@ const STORAGE: &str = "qmeta: fault 34\n";
 
 const HEADER_ALONE: Numbers<'static> = &[(24, 0), (32, 0), (40, 0)];
 
-// An external data file, a format and a name of it, and a backing file: `qcow2`, `data.raw` and `base.img`.
+// An external data file named `data.raw`, and a backing file `base.img` of the format `qcow2`.
 const NAMES: Numbers<'static> = rows! {
     (8, 144), (16, 0x0000_0008_0000_0009), (72, 4), (104, 0xe279_2aca_0000_0005),
     (112, 0x7163_6f77_3200_0000), (120, 0x4441_5441_0000_0008), (128, 0x6461_7461_2e72_6177),
@@ -63,26 +63,26 @@ const SECOND_ALONE: Numbers<'static> = &[(32, 2), (512, 0), (520, 0x400)];
 
 const FAR_L1_TABLE: Numbers<'static> = &[(32, 65), (40, (1 << 56) - 512)];
 
-// A second L2 table at 1536, whose last entry is none.
+// A second L2 table at 1536, whose last entry is invalid.
 const BAD_SECOND_TABLE: Numbers<'static> = rows! {
     (32, 2), (520, COPIED + 0x600), (1536, COPIED + 0xa00), (2040, 2)
 };
 
-// What makes the sample image one whose cluster 2 alone isn't zeros.
+// Changes that leave only zeros in the sample image, except in cluster 2.
 const TABLE_ALONE: Numbers<'static> = rows! {
     (0, 0), (16, 0), (24, 0), (32, 0), (40, 0), (96, 0), (512, 0)
 };
 
 // An autoclear feature, 400 unknown bytes, and the backing file FI, whose name is bytes 1 and 2 of the image.
-// A write puts it after End, which the first cluster ends with.
+// A write would put the name after End, with which the first cluster ends.
 const NO_ROOM: Numbers<'static> = rows! {
     (8, 1), (16, 0x0000_0002_0000_0009), (88, 1), (96, 0x0000_0004_0000_01f8),
 };
 
-// An autoclear feature, which no command leaves that edits or counts.
+// An autoclear feature, which `edit` and `count` clear.
 const AUTOCLEAR: Numbers<'static> = &[(88, 1)];
 
-// Commands over the sample image that leave it as it is, and what they end with.
+// Commands that leave the sample image unchanged, and their ends.
 const LOOKS: &[(&str, Ended<'static>)] = rows! {
     // tables, by their cluster bits and their cluster
     ("l2 IMAGE 9 2", Done(ONE_LINE)),
@@ -123,8 +123,8 @@ const LOOKS: &[(&str, Ended<'static>)] = rows! {
     ("count IMAGE 140737488355328 inc:0", NO_PLACE),
 };
 
-// A line, changes of the sample image, where the outputs of lines and of faults fail, what the run ends with,
-// and how the image differs from the sample image then.
+// A line, changes of the sample image, the failures of output and error output, the end of the run, and the
+// changes of the sample image afterwards.
 #[derive(Clone, Copy)]
 pub(crate) struct Run<'a> {
     pub(crate) line: &'a str,
@@ -148,7 +148,7 @@ const ROWS: &[Run<'static>] = rows! {
     // a table and no header
     Run { line: "l2 IMAGE 9 2", before: TABLE_ALONE, ended: Done(ONE_LINE), after: TABLE_ALONE, ..RUN },
     Run { line: "l2 IMAGE 9 0", before: TABLE_ALONE, ended: SILENT, after: TABLE_ALONE, ..RUN },
-    // edits and steps, which change their table or block alone, and may lengthen the image
+    // edits and steps, which change only their table or block, and may lengthen the image
     Run { line: "edit IMAGE 0 map:3:5 map:3:6 discard:3", ended: Done("freed 5 1\nfreed 6 1\ngained 6\n"),
         after: &[(1048, 0)], ..RUN },
     Run { line: "edit IMAGE 0 keep:3", ended: SILENT, after: &[(1048, COPIED + 0xa01)], ..RUN },
@@ -169,7 +169,8 @@ const OTHERS: &[Run<'static>] = rows! {
     Run { line: "at IMAGE 0", before: HEADER_ALONE, ended: Done(BACKING), after: HEADER_ALONE, ..RUN },
     Run { line: "info IMAGE", before: NAMES, ended: Done(NAMES_INFO), after: NAMES, ..RUN },
     Run { line: "info IMAGE", before: OLDER, ended: Done(OLDER_INFO), after: OLDER, ..RUN },
-    // one L2 table named twice, one by the second L1 entry alone, and a copied L1 entry that names none
+    // one L2 table named twice, one by the second L1 entry alone, and an L1 entry with the copied flag and no
+    // table
     Run { line: "list IMAGE", before: TABLE_TWICE, ended: Done(TWO_LINES), after: TABLE_TWICE, ..RUN },
     Run { line: "list IMAGE", before: SECOND_ALONE, ended: Done("0x8600 data 0xa00 copied\n"),
         after: SECOND_ALONE, ..RUN },
@@ -179,7 +180,7 @@ const OTHERS: &[Run<'static>] = rows! {
 };
 
 const DAMAGED: &[Run<'static>] = rows! {
-    // a damaged part is its fault where a command reads it
+    // a damaged part causes a fault if a command reads it
     Run { line: "list IMAGE", before: &[(0, 0)], ended: Failed("", "qmeta: fault 1\n"), after: &[(0, 0)],
         ..RUN },
     Run { line: "list IMAGE", before: VERSION_4, ended: Failed("", "qmeta: fault 2\n"), after: VERSION_4,
@@ -199,7 +200,7 @@ const DAMAGED: &[Run<'static>] = rows! {
         after: &[(1528, 2)], ..RUN },
     Run { line: "map IMAGE", before: &[(32, 0xffff_ffff)], ended: Failed("", "qmeta: fault 20\n"),
         after: &[(32, 0xffff_ffff)], ..RUN },
-    // a header that loads, but has no room once it is to be written
+    // a header that loads, but is too long to be written
     Run { line: "at IMAGE 1543", before: NO_ROOM, ended: Done(DATA_LINE), after: NO_ROOM, ..RUN },
     Run { line: "edit IMAGE 0", before: NO_ROOM, ended: Failed("", "qmeta: fault 24\n"), after: NO_ROOM,
         ..RUN },
@@ -239,13 +240,13 @@ pub(crate) fn check_runs(rt: &HostRuntime, name: &str, runs: &[Run<'_>]) -> Resu
     Ok(())
 }
 
-// A run of a line that leaves the sample image as it is.
+// Returns a run of a line that leaves the sample image unchanged.
 fn run_of<'a>(line: &'a str, ended: Ended<'a>) -> Run<'a> {
     Run { line, ended, ..RUN }
 }
 
-// Runs a line over a file of the sample image with changes, and fails unless the run ends so, opens the file
-// as its command does, and leaves it with these changes.
+// Runs a line over a file of the sample image with changes, and fails unless the run ends as expected, opens
+// the file as its command should, and leaves the expected changes.
 pub(crate) fn check_run(rt: &HostRuntime, name: &str, run: &Run<'_>) -> Result<(), Fail> {
     let Run { line, ended, .. } = *run;
     let file = sample_file(rt, name, run.before)?;
@@ -262,7 +263,7 @@ pub(crate) fn check_run(rt: &HostRuntime, name: &str, run: &Run<'_>) -> Result<(
     check_sample(rt.alloc(), &found, (9, run.after), line)
 }
 
-// The sample image, whose clusters have 512 bytes, with these changes, in a file.
+// Returns a file with the sample image, with clusters of 512 bytes and these changes.
 pub(crate) fn sample_file<'a>(
     rt: &'a HostRuntime,
     name: &str,
@@ -272,7 +273,7 @@ pub(crate) fn sample_file<'a>(
     temporary_file(rt, name, image.bytes())
 }
 
-// How a run that ends so opens its image. A line that is no command opens none.
+// Returns how a run with this end opens its image. A line that is no command doesn't.
 fn opens_of(line: &str, ended: Ended<'_>) -> Opens {
     let changes = line.starts_with("edit ")
         || line.starts_with("count ")
@@ -285,7 +286,7 @@ fn opens_of(line: &str, ended: Ended<'_>) -> Opens {
     }
 }
 
-// Five entries, and the lines of those that aren't left to the backing file.
+// Five entries, and the lines of those that don't map to the backing file.
 const LINES_5: Numbers<'static> = rows! {
     (1024, COPIED + 0xa00), (1040, 1), (1048, 0x601), (1056, 0x4000_0000_0000_0600)
 };
@@ -310,20 +311,20 @@ const FAILING: &[Run<'static>] = rows! {
         ended: Failed("leaked 1 1 3 2\nshare", STORAGE), ..RUN },
     Run { line: "check IMAGE", before: ALL_KINDS, out: Short, ended: Ended::Harmful(ALL_LINES),
         after: ALL_KINDS, ..RUN },
-    // a failed flush is reported where the run has no fault of its own, whatever its verdict
+    // a failed flush is reported if the run has no fault of its own, whatever its verdict
     Run { line: "l2 IMAGE 9 2", out: Flush, ended: NO_FILE, ..RUN },
     Run { line: "map IMAGE", out: Flush, ended: NO_FILE, ..RUN },
     Run { line: "check IMAGE", before: ALL_KINDS, out: Flush, ended: NO_FILE, after: ALL_KINDS, ..RUN },
     Run { line: "map IMAGE", before: &[(1528, 2)], out: Flush, ended: BAD_ENTRY, after: &[(1528, 2)], ..RUN },
     Run { line: "edit IMAGE 0 zero:3", out: Flush, ended: NO_FILE, after: &[(1048, 1)], ..RUN },
     Run { line: "l2 IMAGE 9 140737488355328", out: Flush, ended: NO_PLACE, ..RUN },
-    // a failed error output keeps the status
+    // a failure of the error output doesn't change the status
     Run { line: "l2 IMAGE 9 2", err: WriteAfter(0), ended: Done(ONE_LINE), ..RUN },
     Run { line: "l2 IMAGE 9 140737488355328", err: WriteAfter(5), ended: Failed("", "qmeta"), ..RUN },
     Run { line: "l2 IMAGE 9 140737488355328", err: Flush, ended: Failed("", ""), ..RUN },
     Run { line: "l2 IMAGE 8 2", err: WriteAfter(9), ended: NoCommand("usage: qm"),
         ..RUN },
-    // an error output that takes a part at a time, or is interrupted, has the whole line in the end
+    // an error output that takes a part at a time, or is interrupted, gets the whole line in the end
     Run { line: "l2 IMAGE 9 140737488355328", err: Short, ended: NO_PLACE, ..RUN },
     Run { line: "l2 IMAGE 9 140737488355328", err: Interrupted, ended: NO_PLACE, ..RUN },
     Run { line: "l2 IMAGE 8 2", err: Short, ended: NO_COMMAND, ..RUN },
@@ -341,7 +342,7 @@ fn failing_outputs_are_told_and_keep_what_they_took(rt: HostRuntime) -> Result<(
     check_runs(&rt, "failing", FAILING)
 }
 
-// Commands one after the other over a sample image whose second L1 entry names an L2 table past its end.
+// Successive commands over a sample image whose second L1 entry names an L2 table past its end.
 const MAPS: &[(&str, Ended<'static>)] = rows! {
     ("at IMAGE 32768", Done("backing 0x8000\n")),
     ("edit IMAGE 1 map:0:5", Done("gained 5\n")),
@@ -365,23 +366,22 @@ fn what_an_edit_maps_is_what_the_offset_reads_as(rt: HostRuntime) -> Result<(), 
     Ok(())
 }
 
-// A command over the sample image, and what it prints.
+// A command over the sample image, and its output.
 struct Calls<'a> {
     line: &'a str,
     printed: &'a str,
-    // How many calls of its file it makes where one takes 100 bytes at most.
+    // The number of its calls of the file, if each takes at most 100 bytes.
     calls: u64,
-    // The call of which a failure is no fault.
+    // The call whose failure is no fault.
     harmless: Option<u64>,
 }
 
-// Each asks for the file's kind by one call, and reads the header's 512 bytes by 14: 104 by two reads, and
-// 408 by five. A read sets the place before it asks for bytes; where the file gives no more, it asks for the
-// length. A write sets the place, and passes on what it wrote. An L1 table of one entry takes two calls, a
-// table of 512 bytes twelve, a block past the end three; to write one of these takes 18, and one more to
-// wait for the device. A place past the end need not be one that the file can be set to. After the header
-// `list` and `map` read one page, of whose 4096 bytes the file has 1536: by 16 reads and one that gives
-// none, and they ask for the length.
+// Each command asks for the file's kind by one call, and reads the header's 512 bytes by 14: 104 bytes by two
+// reads, and 408 by five. A read seeks before it reads bytes, and asks for the length if the file returns no
+// more. A write seeks, writes and flushes. An L1 table of one entry takes two calls, a table of 512 bytes
+// twelve, a block past the end three; a write of the table or block takes 18, and its sync one more. A seek
+// past the end may fail. After the header `list` and `map` read one page of 4096 bytes, of which the file has
+// 1536: by 16 reads, one that returns nothing, and a call for the length.
 const CALLS: &[Calls<'static>] = rows! { Calls:
     { line: "l2 IMAGE 9 2", printed: ONE_LINE, calls: 1 + 12, harmless: None },
     { line: "info IMAGE", printed: INFO, calls: 1 + 14, harmless: None },
@@ -402,8 +402,8 @@ fn each_failed_call_of_the_file_is_the_storage_fault(rt: HostRuntime) -> Result<
     Ok(())
 }
 
-// Runs a line over a file of which each call takes 100 bytes at most, with each call of the file failed in
-// turn. A run that has all of its calls prints what it should.
+// Runs a line over a file whose calls take at most 100 bytes, and fails each call in turn. The line prints
+// its output if no call fails, or just the harmless one.
 fn check_failed_calls(rt: &HostRuntime, row: &Calls<'_>) -> Result<(), Fail> {
     for passes in 0..=row.calls {
         let file = sample_file(rt, "failed-calls", &[])?;
@@ -426,7 +426,7 @@ fn check_failed_calls(rt: &HostRuntime, row: &Calls<'_>) -> Result<(), Fail> {
     Ok(())
 }
 
-// It is never opened for reading in place of that.
+// The file isn't opened for reading instead.
 #[test]
 fn a_file_that_may_not_be_written_is_not_edited(rt: HostRuntime) -> Result<(), Fail> {
     let file = sample_file(&rt, "read-only", &[])?;
@@ -437,13 +437,13 @@ fn a_file_that_may_not_be_written_is_not_edited(rt: HostRuntime) -> Result<(), F
     same(files.opens(), opens_of(line, NO_FILE), "opens")
 }
 
-// Names of images. Each is that of a file as it is: nothing in it has a meaning.
+// Names of images, each taken literally as the name of a file.
 const PATHS: &[&str] = rows! {
     " image", "image ", "an  image", "\timage\n", "file:image", "nbd:image", "json:{}", "a:b", "-", "--help",
     "l2", "\u{e4}\u{20ac}\u{fffd}", "image%20", "\"image\"",
 };
 
-// Looks at the file at a path by this name, and edits it.
+// Reads the file at a path by this name, and edits it.
 fn check_name<'a>(rt: &'a HostRuntime, name: &'a str, path: &'a str) -> Result<(), Fail> {
     let mut files = FaultyFiles::new(rt);
     files.alias = Some((name, path));
@@ -467,7 +467,7 @@ fn the_image_that_is_named_is_opened(rt: HostRuntime) -> Result<(), Fail> {
     Ok(())
 }
 
-// A text, and another one after it fifty times.
+// Returns a text, followed by another one fifty times.
 fn with_fifty(alloc: Global, text: &str, other: &str) -> Result<String, AllocError> {
     let mut whole = String::from_str(alloc, text)?;
     whole.push_str(&other.repeat(alloc, 50)?)?;
