@@ -48,7 +48,7 @@ const COMPRESSED: Content<'static> = content!(
     [4, 1, 0, 1, 1, 0]
 );
 
-// Content with a host cluster of two guest clusters.
+// Content in which two guest clusters share a host cluster.
 const SHARED: Content<'static> = content!(
     [Shared(0), Nothing, Nothing, Shared(0), Nothing, Nothing],
     [2, 0, 0, 0, 0, 0]

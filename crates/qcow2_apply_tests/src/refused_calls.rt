@@ -29,7 +29,7 @@ struct Ordered<'a> {
     calls: &'a [StorageCall],
 }
 
-// Changes that make the image consistent: data of both tables, which both blocks count.
+// Changes that make the image consistent: data of both tables, in a cluster of each block.
 const CONSISTENT: Numbers<'static> = &[(OTHER_TABLE, COPIED | 256 << 9), (OTHER_BLOCK, 1 << 48)];
 
 const AUTOCLEAR: (u64, u64) = (88, 1);

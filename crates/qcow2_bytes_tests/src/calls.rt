@@ -1,4 +1,4 @@
-//! The tested calls without their contracts, so that proofs about tests needn't read those.
+//! The tested calls without their contracts, so that proofs about tests needn't read them.
 
 use qcow2_base::Fault;
 use qcow2_bytes::{

@@ -56,7 +56,7 @@ type Refused = (usize, Numbers<'static>, Fault);
 const REFUSED: [Refused; 8] = [
     (511, &[], Fault::WrongLength),
     (600, &[(16, 10)], Fault::WrongLength),
-    // bytes that end within the cluster are refused before all but its size is checked
+    // a cluster that isn't whole is refused first, unless its size is invalid
     (511, &[(96, 0x7_0000_0068)], Fault::WrongLength),
     (511, &[(16, 8)], Fault::ClusterSize),
     (512, &[(96, 0x7_0000_0068)], Fault::RefcountWidth),

@@ -103,9 +103,9 @@ fn what_is_no_part_of_a_block_is_refused(rt: HostRuntime) -> Result<(), Fail> {
     each(rt.alloc(), REFUSED, check_refused)
 }
 
-// A block's size in bytes, its refcount order, its index in the refcount table, and its bytes as numbers of
-// eight bytes at offsets, before and after. Between them a range of clusters that lose a reference, as its
-// first cluster and its length, and clusters that gain one.
+// A block's size in bytes, its refcount order and its index in the refcount table; its bytes, as numbers of
+// eight bytes at offsets; a range of clusters that lose a reference (first cluster and length), and clusters
+// that gain one; and the bytes afterwards.
 #[derive(Clone, Copy, Debug)]
 struct Settled {
     size: usize,

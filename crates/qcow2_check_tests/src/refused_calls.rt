@@ -11,7 +11,7 @@ use std::test::Fail;
 // More storage calls than a check or a repair of the sample image makes.
 const MOST_CALLS: u64 = 64;
 
-// A second L2 table and a second block, and entries with wrong flags whose clusters both blocks count.
+// A second L2 table and a second block, and entries with wrong flags, whose clusters belong to both blocks.
 const TWO_TABLES: Numbers<'static> = &[
     (L1_TABLE + 8, 3072),
     (3072 + 504, L2_TABLE),

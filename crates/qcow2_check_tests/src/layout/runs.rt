@@ -53,7 +53,7 @@ const GUEST: &[Laid<'static>] = rows! { Laid:
 };
 
 const COMPRESSED: &[Laid<'static>] = rows! { Laid:
-    // compressed data of one sector, and of two that begin one byte after cluster 6 does
+    // compressed data of one sector, and of two from the second byte of cluster 6 on
     { name: "compressed data", changes: &[(NEXT_ENTRY, 1 << 62 | 3072)],
         runs: runs! { 5 + 1 FIRST, 6 + 1 Part::Compressed } },
     { name: "compressed data over a border", changes: &[(NEXT_ENTRY, 3 << 61 | 3073)],

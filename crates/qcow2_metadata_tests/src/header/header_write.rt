@@ -32,8 +32,8 @@ fn check_places(
     same_bytes(image.inner.bytes(), expected.bytes(), row)
 }
 
-// Checks the same, that the text loads as the same header, whose write places it again, and the name of the
-// first incompatible feature after each of the two writes.
+// Checks the same; that the text loads as a header with the same names, which is written as the same text;
+// and the name of the first incompatible feature after each of the two writes.
 fn check_round_trip(
     alloc: Global,
     header: &mut Header,

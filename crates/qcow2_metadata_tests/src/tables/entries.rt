@@ -49,7 +49,8 @@ const NUMBERS: &[Number] = rows! { Number:
     { kind: L2, cluster_bits: 9, number: 0xc000_0000_0000_0000, fault: RESERVED },
     { kind: L2, cluster_bits: 16, number: 0x200, fault: UNALIGNED },
     { kind: L2, cluster_bits: 16, number: 0x202, fault: RESERVED },
-    // the longest compressed data, which from 14 cluster bits on may end at 2^56
+    // the longest compressed data at the largest offset, whose field has 56 bits or less from 14 cluster bits
+    // on
     { kind: L2, cluster_bits: 13, number: 0x7eff_ffff_ffff_ffff, fault: None },
     { kind: L2, cluster_bits: 13, number: 0x7fff_ffff_ffff_ffff, fault: RESERVED },
     { kind: L2, cluster_bits: 14, number: 0x7fff_ffff_ffff_ffff, fault: None },

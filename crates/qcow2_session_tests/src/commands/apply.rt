@@ -92,7 +92,7 @@ const STALE: Numbers<'static> = counted! {
     (0xdf8, 0), (88, 2), (104, 0x2385_2875_0000_0018), (112, 3 << 32), (120, 96), (128, 0x1000),
 };
 
-// Another extension, and then a bitmaps extension with the largest number.
+// Another extension, and then a bitmaps extension with the largest number of bitmaps.
 const SECOND: Numbers<'static> = counted! {
     (0xdf8, 0), (88, 3), (104, 0x2385_2876_0000_0004), (112, 1 << 32), (120, 0x2385_2875_0000_0004),
     (128, 0xffff_ffff_0000_0000),

@@ -380,8 +380,8 @@ struct Calls<'a> {
 // reads, and 408 by five. A read seeks before it reads bytes, and asks for the length if the file returns no
 // more. A write seeks, writes and flushes. An L1 table of one entry takes two calls, a table of 512 bytes
 // twelve, a block past the end three; a write of the table or block takes 18, and its sync one more. A seek
-// past the end may fail. After the header `list` and `map` read one page of 4096 bytes, of which the file has
-// 1536: by 16 reads, one that returns nothing, and a call for the length.
+// to the end or past it may fail. After the header `list` and `map` read one page of 4096 bytes, of which the
+// file has 1536: by 16 reads, one that returns nothing, and a call for the length.
 const CALLS: &[Calls<'static>] = rows! { Calls:
     { line: "l2 IMAGE 9 2", printed: ONE_LINE, calls: 1 + 12, harmless: None },
     { line: "info IMAGE", printed: INFO, calls: 1 + 14, harmless: None },
