@@ -285,7 +285,7 @@ const RUNS: &[Run] = rows! { Run:
     { steps: &[(Some(FREE), Call::Write, true), (Some(FREE), Call::Sync, true),
         (Some(BARRED), Call::Write, false)],
         is_in_use: true, written: &[1] },
-    // writes between two syncs don't look
+    // only the first write of a step looks
     { steps: &[(Some(FREE), Call::Write, true), (Some(BARRED), Call::Write, true),
         (Some(BARRED), Call::Sync, false)],
         is_in_use: true, written: &[1, 1] },

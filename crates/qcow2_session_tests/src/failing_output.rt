@@ -11,7 +11,7 @@ use std::io::{ErrorKind, Write};
 pub(crate) enum Failure {
     /// None.
     Never,
-    /// The first write after this many bytes, once.
+    /// The first write past this many bytes, once.
     WriteAfter(usize),
     /// Each flush.
     Flush,
