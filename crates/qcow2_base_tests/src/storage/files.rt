@@ -216,8 +216,9 @@ fn a_sync_fails_where_that_of_the_file_does(rt: HostRuntime) -> Result<(), Fail>
     same(storage.sync(), Ok(()), "again")?;
     check_failures(rt.alloc(), &storage, 1)?;
     file_holds(&rt, file.path.as_str(), &[1, 2, 3], "after both")
-} // A file that is opened is asked for its metadata, and then, for its length, to seek its end.
+}
 
+// Opening a file asks for its metadata; then its length asks it to seek its end.
 #[test]
 fn a_length_fails_where_a_seek_of_the_file_does(rt: HostRuntime) -> Result<(), Fail> {
     let file = temporary_file(&rt, "length", &[1, 2, 3])?;
