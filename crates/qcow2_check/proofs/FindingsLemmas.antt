@@ -1,4 +1,4 @@
-use Rattle.std.proofs.Common.{◌≡◌, ◌↔◌, ℕ, false, ◌==◌, ◌+◌, ◌/◌, ◌%◌, ◌<◌, ◌≤◌, ◌&&◌, List, [], ◌∷◌, fold, Some, None, Result, Ok, Err, refl, sym, ap, subst, inl, inr, ◌∙◌, length, slice_index, slice_set, ◌-◌, div-add-mod', IsSomeAnd, Option, arith}
+use Rattle.std.proofs.Common.{◌≡◌, ◌↔◌, ℕ, false, ◌==◌, ◌+◌, ◌/◌, ◌%◌, ◌<◌, ◌≤◌, ◌&&◌, List, [], ◌∷◌, fold, Some, None, Result, Ok, Err, refl, sym, ap, subst, inl, inr, ◌∙◌, length, slice_index, slice_set, ◌-◌, div-add-mod', IsSomeAnd, IfSome, Option, arith}
 use Rattle.std.proofs.lemmas.Bool.{cases_lt}
 use Rattle.std.proofs.lemmas.Bool.Decides.{nat_tests}
 use Rattle.std.proofs.lemmas.Grind.{get_or-set_at}
@@ -6,12 +6,14 @@ use Rattle.std.proofs.lemmas.List.{get_or-set_other}
 use Rattle.std.proofs.lemmas.List.Sums.{sum_by-cons}
 use Rattle.qcow2_base.specs.Storage.{Image, OnImage, OnlyReads, StorageState}
 use Rattle.qcow2_base.specs.declared.fault.Fault.{Fault}
-use Rattle.qcow2_metadata.specs.Header.{HeaderRecord, geometry_of, uncounted_part}
+use Rattle.qcow2_base.specs.declared.fault.Fault.TheVariants.{Uncounted}
+use Rattle.qcow2_base.specs.declared.fault.UncountedPart.{UncountedPart}
+use Rattle.qcow2_metadata.specs.Header.{HeaderRecord, geometry_of}
 use Rattle.qcow2_metadata.specs.Results.{Reads}
 use Rattle.qcow2_metadata.specs.Table.{IsEntryFault}
-use Rattle.qcow2_check.specs.NamedTables.{loaded_l1_table}
+use Rattle.qcow2_check.specs.ImageTables.{OpensTables, RefusesToOpen}
 use Rattle.qcow2_check.proofs.CountersLemmas.{kept_counter, same_block, same_remainder}
-use Rattle.qcow2_check.specs.Counters.{IsKeptBlockOf, block_of_cluster, counter_of, counters_each, placed_reftable}
+use Rattle.qcow2_check.specs.Counters.{CountersState, IsKeptBlockOf, block_of_cluster, counter_of, counters_each}
 use Rattle.qcow2_base.specs.declared.types.HostCluster.{HostCluster}
 use Rattle.qcow2_metadata.specs.Refblock.{BlockState}
 use Rattle.std.proofs.lemmas.Nat.{pow_pos}
@@ -113,17 +115,33 @@ pub counts_all : (tables : ImageTables) (image : Image) (old new : TallyState) �
 counts_all tables image old new none more = λ c from before.
     more.cells c (rw more.first at from) before ∙ ap (λ cell. fold (cell_with c) cell (image_uses tables image)) (none c)
 
+-- an answer is a refusal for a part that isn't read here, if there is one
+abbrev pub IsRefusedFor : {T : Type 0} → Option UncountedPart → Result T Fault → Type 0
+IsRefusedFor part answer = IfSome part (λ it. answer ≡ Err (Uncounted it))
+
+-- that doesn't depend on what is refused
+pub refused_for : (T U : Type 0) (part : Option UncountedPart) (fault : Fault) → IsRefusedFor {T = T} part (Err fault) → IsRefusedFor {T = U} part (Err fault)
+refused_for T U None fault refused = tt
+refused_for T U (Some it) fault refused = grind (arith, refused)
+
+-- tables that can't be opened
+pub refused_opening : {T : Type 0} (view : T → ImageTables) (header : HeaderRecord) (fault : Fault) (a b : StorageState) → RefusesToOpen header fault a b
+    → Reads view (Err fault) (checked_tables header) (IsCheckFault header) a b
+refused_opening view header fault a b refuses = record {
+  exact = λ told. grind (arith, told, refuses.exact);
+  faults = grind (arith, refuses.faults);
+  storage = grind (arith, nat_tests, refuses.storage);
+}
+
 -- L2 tables that can't all be loaded, after the L1 table and the refcount table
-pub refused_tables : {T : Type 0} (view : T → ImageTables) (header : HeaderRecord) (l1 reftable : List ℕ) (fault : Fault) (a b c d : StorageState)
-    → uncounted_part header ≡ None
-    → OnImage a (λ bytes. loaded_l1_table header bytes ≡ Ok l1) → OnlyReads (Ok l1) a b
-    → OnImage b (λ bytes. placed_reftable header bytes ≡ Ok reftable) → OnlyReads (Ok reftable) b c
-    → Reads (λ (done : Unit {0}). done) (Err fault) (all_load (geometry_of header) l1) IsEntryFault c d
-    → Reads view (Err fault) (checked_tables header) (IsCheckFault header) a d
-refused_tables view header l1 reftable fault a b c d counted first reads_first second reads_second reads = record {
-  exact = λ told. grind (arith, counted, told, first, reads_first, second, reads_second, reads.exact);
+pub refused_tables : {T : Type 0} (view : T → ImageTables) (header : HeaderRecord) (l1 : List ℕ) (counters : CountersState) (fault : Fault) (a b c : StorageState)
+    → OpensTables header l1 counters a b
+    → Reads (λ (done : Unit {0}). done) (Err fault) (all_load (geometry_of header) l1) IsEntryFault b c
+    → Reads view (Err fault) (checked_tables header) (IsCheckFault header) a c
+refused_tables view header l1 counters fault a b c opens reads = record {
+  exact = λ told. grind (arith, told, opens, reads.exact);
   faults = grind (arith, reads.faults);
-  storage = grind (arith, nat_tests, reads_first, reads_second, reads.storage);
+  storage = grind (arith, nat_tests, opens.storage, reads.storage);
 }
 
 -- clusters that nothing is wrong with, one after another

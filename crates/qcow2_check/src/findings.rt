@@ -12,8 +12,7 @@ ghost use Rattle.qcow2_check.specs.Uses.{all_load, image_tables};
 
 use crate::counters::Counters;
 use crate::flags::Flags;
-use crate::image_tables::ImageTables;
-use crate::named_tables::load_l1_table;
+use crate::image_tables::{ImageTables, OpenTables, open_tables};
 use crate::tally::{Tally, count_of, is_shared};
 use crate::windows::Windows;
 use qcow2_base::{Fault, HostCluster, MAX_FILE_LENGTH, Storage};
@@ -196,11 +195,7 @@ impl<'a> Findings<'a> {
         ensures reader { IfOk result (λ findings. OnImage (S.state image.old) (λ bytes.
             IsFindingsOf bytes findings)) }
     {
-        if let Some(part) = header.uncounted_part() {
-            return Err(Fault::Uncounted(part));
-        }
-        let l1_table = load_l1_table(alloc, image, header)?;
-        let counters = Counters::new(alloc, image, header)?;
+        let OpenTables { l1_table, counters } = open_tables(alloc, image, header)?;
         let tables = ImageTables {
             header,
             l1_table: &l1_table,

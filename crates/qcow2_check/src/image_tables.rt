@@ -1,6 +1,15 @@
 //! The tables of an image that name clusters, as one value.
 
+ghost use Rattle.std.specs.Prelude.{◌≡◌, IfErr, IfOk, IfSome, Err};
+ghost use Rattle.qcow2_base.specs.declared.fault.Fault.TheVariants.{Uncounted};
+ghost use Rattle.qcow2_metadata.specs.Header.{uncounted_part};
+ghost use Rattle.qcow2_check.specs.ImageTables.{IsOpenedL1, OpensTables, RefusesToOpen};
+
+use crate::counters::Counters;
+use crate::named_tables::load_l1_table;
+use qcow2_base::{Fault, Storage};
 use qcow2_metadata::{Header, L1Table, RefTable};
+use std::alloc::Global;
 use std::marker::Model;
 
 /// The header, the active L1 table and the refcount table of one image. The tables have the header's cluster
@@ -21,4 +30,36 @@ impl<'a> Model for ImageTables<'a> {
     ghost view = { λ t. image_tables t.header.now t.l1_table.now.numbers t.reftable.now.numbers };
 
     ghost invariant = { λ t. AreTablesOf t.header.now t.l1_table.now t.reftable.now };
+}
+
+/// The L1 table of an image that can be checked, and a reader of its refcounts.
+#[derive(Drop)]
+pub struct OpenTables<'a> {
+    pub l1_table: L1Table,
+    pub counters: Counters<'a>,
+}
+
+/// Opens the tables of an image with this header for a check of all its references.
+///
+/// Returns the first of these faults: 37 if the image has snapshots, bitmaps or LUKS encryption, that of the
+/// L1 table, that of the refcount table, or 21 if a refcount block would end past 2^56. Changes no byte.
+pub fn open_tables<'a, S: Storage>(
+    alloc: Global,
+    image: &mut S,
+    header: &'a Header,
+) -> Result<OpenTables<'a>, Fault>
+    ensures uncounted { IfSome (uncounted_part header.now) (λ part. result ≡ Err (Uncounted part)) }
+    ensures refused { IfErr result (λ fault.
+        RefusesToOpen header.now fault (S.state image.old) (S.state image.new)) }
+    ensures opened { IfOk result (λ opened. OpensTables header.now opened.l1_table.numbers
+        opened.counters (S.state image.old) (S.state image.new)) }
+    ensures l1_table { IfOk result (λ opened.
+        IsOpenedL1 header.now (S.state image.old) opened.l1_table) }
+{
+    if let Some(part) = header.uncounted_part() {
+        return Err(Fault::Uncounted(part));
+    }
+    let l1_table = load_l1_table(alloc, image, header)?;
+    let counters = Counters::new(alloc, image, header)?;
+    Ok(OpenTables { l1_table, counters })
 }

@@ -9,7 +9,7 @@ use crate::parts::{Part, Run};
 use crate::window::Window;
 use crate::windows::Windows;
 use qcow2_base::{ClusterCount, Fault, HostCluster, Storage};
-use qcow2_check::{Counters, ImageTables, load_l1_table};
+use qcow2_check::{Counters, ImageTables, OpenTables, open_tables};
 use qcow2_metadata::{Header, L1Table, Table};
 use qcow2_summary::most_clusters;
 use std::alloc::Global;
@@ -80,11 +80,7 @@ impl<'a> Layout<'a> {
         ensures reader { IfOk result (λ layout. OnImage (S.state image.old) (λ bytes.
             IsLayoutOf bytes layout)) }
     {
-        if let Some(part) = header.uncounted_part() {
-            return Err(Fault::Uncounted(part));
-        }
-        let l1_table = load_l1_table(alloc, image, header)?;
-        let counters = Counters::new(alloc, image, header)?;
+        let OpenTables { l1_table, counters } = open_tables(alloc, image, header)?;
         let tables = ImageTables {
             header,
             l1_table: &l1_table,
