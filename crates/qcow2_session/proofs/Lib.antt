@@ -5,6 +5,7 @@ pub mod ChangingLemmas
 pub mod CheckLemmas
 pub mod CommandsLemmas
 pub mod ConsistentLemmas
+pub mod EditLemmas
 pub mod EditedDiskLemmas
 pub mod EditedEntryLemmas
 pub mod EditedImageLemmas

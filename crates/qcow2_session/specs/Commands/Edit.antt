@@ -64,16 +64,20 @@ table_cluster header l1_index image = and_then (loaded_l1_table header image) (�
     or_not_placed None = Err NotPlaced
     or_not_placed (Some cluster) = Ok cluster
 
--- what edits of the L2 table that an L1 entry names come to, in an image with this header, or why they are refused: the
--- lines tell of the clusters that lost a reference, and then of those that gained one
+-- what edits of the L2 table at a cluster come to, by what they leave of it: the lines tell of the clusters that lost a
+-- reference, and then of those that gained one
+abbrev pub change_of_edits : HostCluster → List Edit → RunEnd → ChangeEnd
+change_of_edits cluster edits left = record {
+  cluster = cluster;
+  numbers = left.numbers;
+  is_written = are_some edits;
+  lines = flat_map freed_line left.freed ++ flat_map gained_line left.gained;
+}
+
+-- what edits of the L2 table that an L1 entry names come to, in an image with this header, or why they are refused
 abbrev pub end_of_edits : ℕ → List Edit → HeaderRecord → Image → Result ChangeEnd Fault
-end_of_edits l1_index edits header image = and_then (table_cluster header l1_index image) (λ cluster.
-    result_map (λ (left : RunEnd). record {
-      cluster = cluster;
-      numbers = left.numbers;
-      is_written = are_some edits;
-      lines = flat_map freed_line left.freed ++ flat_map gained_line left.gained;
-    }) (edits_end header cluster edits image))
+end_of_edits l1_index edits header image = and_then (table_cluster header l1_index image)
+    (λ cluster. result_map (change_of_edits cluster edits) (edits_end header cluster edits image))
 
 -- the facts of the command `edit` of the L2 table of an L1 entry
 abbrev pub edit_facts : ℕ → List Edit → CommandFacts

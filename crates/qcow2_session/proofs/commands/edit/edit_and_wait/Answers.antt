@@ -1,14 +1,12 @@
 use Rattle.std.proofs.Common.{◌≡◌, ◌++◌, arith, flat_map, refl, rules, ◌∙◌}
 use Rattle.std.proofs.lemmas.Result.{err_from_is_err_and}
-use Rattle.qcow2_edits.specs.Edits.{are_some, cluster_numbers}
-use Rattle.qcow2_session.proofs.ChangingLemmas.{change-printed, change-refused, change-unconfirmed, change-unplaced, idle-edits, l2-keeps_bytes, l2-some, loads-part, of-any, one-more, part-follows, part-refused}
-use Rattle.qcow2_image.proofs.LookupsLemmas.{refused-as}
+use Rattle.qcow2_edits.specs.Edits.{cluster_numbers}
+use Rattle.qcow2_session.proofs.ChangingLemmas.{change-printed, change-unconfirmed, change-unplaced, idle-edits, l2-keeps_bytes, l2-some, loads-part, of-any, one-more, part-follows}
+use Rattle.qcow2_session.proofs.EditLemmas.{edits-refused}
 use Rattle.qcow2_session.proofs.PrintingLemmas.{last-printed, last-unprinted}
-use Rattle.qcow2_session.specs.Commands.Edit.{end_of_edits, freed_line, gained_line}
+use Rattle.qcow2_session.specs.Commands.Edit.{change_of_edits, end_of_edits, freed_line, gained_line}
 use Rattle.qcow2_metadata.specs.Header.{geometry_of}
 use Rattle.qcow2_metadata.specs.Table.{l2_layout}
-use Rattle.qcow2_metadata.specs.Table.L2Guards.{RunEnd}
-use Rattle.qcow2_session.specs.Commands.Changing.{ChangeEnd}
 use Rattle.qcow2_image.specs.Images.{edits_end}
 use Rattle.qcow2_session.proofs.commands.edit.edit_and_wait.Goals as goal
 
@@ -20,24 +18,8 @@ returns-in_err-outcome-clause-edits g c =
     let exit = err_from_is_err_and c.from_residual-in_err-outcome.result c.from_residual-in_err-outcome.ensures.1 in
     let named = c.in_ok-cluster.ensures in
     let ran = c.in_err-outcome.ensures in
-    let header = c.args.header.now in
-    let cluster = c.in_ok-cluster.cluster in
-    let edits = c.args.edits.now in
-    let image = (g.S.Storage.state c.args.image.now).byte_at in
-    let tell : RunEnd → ChangeEnd = λ left. record {
-      cluster = cluster;
-      numbers = left.numbers;
-      is_written = are_some edits;
-      lines = flat_map freed_line left.freed ++ flat_map gained_line left.gained;
-    } in
-    rw (exit.1, exit.2) (change-refused _ (l2_layout (geometry_of header)) tell (end_of_edits c.args.l1_index edits header) (edits_end header cluster edits image) _ _ _ _ _
-    (λ told. rw (named.exact told) refl)
-    (λ told. refused-as _ (λ bad. part-refused _ (λ (left : RunEnd). (left.freed, left.gained)) _ (rw named.storage.bytes at bad)) (ran.exact (named.storage.device.tells ∙ told)))
-    (λ storage. grind (arith, storage, named.storage.told, ran.changes.storage.told))
-    (λ other. ran.changes.storage.refused other ∙ named.storage.bytes)
-    (λ told failed. rw named.storage.bytes at (ran.changes.torn (named.storage.device.tells ∙ told) (grind (arith, failed, named.storage.told, ran.changes.storage.told))))
-    (λ told. idle-edits edits _ _ _ (λ none. ran.idle none ∙ named.storage.bytes))
-    (λ told. of-any (edits_end header cluster edits image) (λ left. rw named.storage.bytes at (ran.changes.storage.others (named.storage.device.tells ∙ told)))))
+    rw (exit.1, exit.2) (edits-refused c.args.header.now c.args.l1_index c.args.edits.now c.in_ok-cluster.cluster _ _ _ _ _ _ _
+    named.exact named.storage ran.exact ran.changes ran.idle)
 
 pub returns-in_err-sync-clause-edits : goal.returns-in_err-sync-clause-edits
 returns-in_err-sync-clause-edits g c =
@@ -53,14 +35,8 @@ returns-in_err-sync-clause-edits g c =
     let bytes : new.byte_at ≡ made.byte_at = search rules in
     let calm : made.failures ≡ old.failures = search rules in
     let run = edits_end header cluster edits old.byte_at in
-    let tell : RunEnd → ChangeEnd = λ left. record {
-      cluster = cluster;
-      numbers = left.numbers;
-      is_written = are_some edits;
-      lines = flat_map freed_line left.freed ++ flat_map gained_line left.gained;
-    } in
     let lines = flat_map freed_line c.in_ok-outcome.outcome.freed.items ++ flat_map gained_line (cluster_numbers c.in_ok-outcome.outcome.gained.items) in
-    rw (exit.1, exit.2) (change-unconfirmed (l2_layout (geometry_of header)) tell (end_of_edits c.args.l1_index edits header) run lines _ old new _ _
+    rw (exit.1, exit.2) (change-unconfirmed (l2_layout (geometry_of header)) (change_of_edits cluster edits) (end_of_edits c.args.l1_index edits header) run lines _ old new _ _
     (λ told. rw (named.exact told) refl)
     (λ told. let exact = rw named.storage.bytes at (ran.exact (named.storage.device.tells ∙ told)) in grind (arith, exact, part-follows))
     (λ told. let decoded = rw (named.storage.bytes, ← bytes) at (ran.changes.decoded (named.storage.device.tells ∙ told)) in loads-part run (λ left. left.numbers) _ decoded)
