@@ -1,7 +1,7 @@
-//! The example of the front page, over small image files.
+//! The two programs of the example, over small image files.
 
 use qcow2_base::{ClusterCount, Fault, GuestOffset, HostCluster, MemStorage};
-use qcow2_example::discard;
+use qcow2_example::{discard, discard_range};
 use qcow2_metadata::ClustersToFreeEntry;
 use qcow2_session::Outcome;
 use qcow2_testing::{TemporaryFile, file_holds, image_with, same, temporary_file};
@@ -46,6 +46,11 @@ const WITHOUT_A_BLOCK: Image = Image {
     l2_entry: DATA_IN_5,
     block_offset: 0,
     counter_5: 1,
+};
+
+const CLUSTER_5: ClustersToFreeEntry = ClustersToFreeEntry {
+    first: HostCluster(5),
+    count: ClusterCount(1),
 };
 
 // Returns an image of six clusters of 512 bytes with a disk of 64. Cluster 0 has the header, 1 the L1 table,
@@ -103,12 +108,18 @@ fn discarded_data_loses_its_entry_and_its_count(rt: HostRuntime) -> Result<(), F
     let Some(outcome) = check_discard(&rt, "example-data", IN_CLUSTER_3, images)?? else {
         return Err(Fail::new("nothing was discarded"));
     };
-    let cluster_5 = ClustersToFreeEntry {
-        first: HostCluster(5),
-        count: ClusterCount(1),
-    };
-    same(&outcome.freed.as_slice(), &[cluster_5].as_slice(), "freed")?;
+    same(&outcome.freed.as_slice(), &[CLUSTER_5].as_slice(), "freed")?;
     same(&outcome.gained.len(), &0, "gained")
+}
+
+#[test]
+fn a_discarded_range_loses_its_entry_and_its_count(rt: HostRuntime) -> Result<(), Fail> {
+    let file = file_of(&rt, "example-range", &MAPPED)?;
+    let found = discard_range(&rt, file.path.as_str(), GuestOffset(0x600), 0x200)?;
+    check_file(&rt, file.path.as_str(), &DISCARDED, "example-range")?;
+    same(&found.freed.as_slice(), &[CLUSTER_5].as_slice(), "freed")?;
+    same(&found.kept.len(), &0, "kept")?;
+    same(&found.gained.len(), &0, "gained")
 }
 
 #[test]

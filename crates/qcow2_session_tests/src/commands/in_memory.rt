@@ -6,8 +6,11 @@ use crate::failing_output::{FailingOutput, Failure};
 use qcow2_base::{Device, Fault, FileStorage, Storage};
 use qcow2_session::{Command, Verdict, run_words};
 use qcow2_session_calls::{parse_command, run, run_on_file};
+use qcow2_testing::damages::{Loaded, MOST_LOADS, loaded_images};
 use qcow2_testing::sample_image::{EXTENTS, INFO, JSON, TABLE_LINES, check_sample, sample_image};
-use qcow2_testing::{COPIED, KnownFile, KnownFiles, Numbers, counted, each, picture, rows, same};
+use qcow2_testing::{
+    COPIED, KnownFile, KnownFiles, Numbers, counted, each, picture, recorded, rows, same,
+};
 use std::alloc::Global;
 use std::test::Fail;
 
@@ -145,6 +148,22 @@ fn check_row(alloc: Global, row: Row) -> Result<(), Fail> {
     let found = (answer, std::str::from_utf8(out.bytes())?);
     same(found, (row.answer, row.printed), row.line)?;
     check_sample(alloc, image.bytes(), (9, row.after), row.line)
+}
+
+fn check_loads(alloc: Global, row: Loaded) -> Result<(), Fail> {
+    let mut image = recorded(alloc, sample_image(alloc, 9, row.changes)?);
+    let mut out = FailingOutput::new(alloc, Failure::Never);
+    let answer = run_command(alloc, &mut image, "check IMAGE repair", &mut out)?;
+    same(answer, DONE, row.name)?;
+    for table in row.l2_tables {
+        same(image.reads_of(*table) <= MOST_LOADS, true, row.name)?;
+    }
+    Ok(())
+}
+
+#[test]
+fn a_check_with_a_repair_loads_an_l2_table_at_most_five_times(rt: HostRuntime) -> Result<(), Fail> {
+    each(rt.alloc(), loaded_images(), check_loads)
 }
 
 // The number of bytes that a file reads or writes at a time.
