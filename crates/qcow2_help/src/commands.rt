@@ -4,7 +4,7 @@ ghost use Rattle.std.specs.Prelude.{◌≡◌, option_map};
 ghost use Rattle.qcow2_help.specs.CommandTexts.{command_text, commands_text, version_text};
 
 const COMMANDS: &str = "\
-qmeta prints what a qcow2 disk image says about itself, and edits it.
+qmeta reads, checks, repairs and edits the metadata of qcow2 disk images: header, mapping tables, refcounts.
 
   info IMAGE                      the main fields of the header
   list IMAGE                      the mapping of each mapped guest cluster
@@ -26,6 +26,7 @@ qmeta prints what a qcow2 disk image says about itself, and edits it.
   version                         the version of this program
 
 Begin with `qmeta info disk.qcow2` and `qmeta check disk.qcow2`: both only read.
+After `qmeta: fault N`, `qmeta explain N IMAGE` says what is wrong, where in the image, and what helps.
 The status is 0 for success, 1 for a fault, 2 for a usage error. `check` also has 3 and 4.
 Any command may end in fault 34 (a failed system call) or 35 (no memory).
 ";
@@ -65,8 +66,9 @@ qmeta map IMAGE
 qmeta map IMAGE json
 
 Prints the mapping of the whole disk in extents: guest offset, length, and one of `data OFFSET`, `zero`,
-`zero OFFSET`, `compressed`, `backing`. Numbers are hexadecimal. With `json` it prints a list of objects as
-`qemu-img map --output=json` does. Only reads.
+`zero OFFSET`, `compressed`, `backing`. The last is what the backing file has there, or zeros without one.
+Numbers are hexadecimal. With `json` it prints a list of objects as `qemu-img map --output=json` does. Only
+reads.
 
 Status 0: printed. 1: a fault; extents before it stay. Faults: those of `list`.
 
@@ -77,8 +79,8 @@ const AT: &str = "\
 qmeta at IMAGE OFFSET
 
 Prints the mapping of the guest cluster that has the guest offset OFFSET: as `list` prints it, or
-`backing OFFSET`. OFFSET is decimal; a shell turns hexadecimal into it by $((0x20100000)). Only reads. An
-IMAGE may have any name, also `--help`.
+`backing OFFSET` for what the backing file has there, or zeros without one. OFFSET is decimal; a shell turns
+hexadecimal into it by $((0x20100000)). Only reads. An IMAGE may have any name, also `--help`.
 
 Status 0: printed. 1: a fault. Faults: those of `info`, and 18 to 21 of the L1 table or of the L2 table.
 
@@ -91,7 +93,8 @@ qmeta tables IMAGE
 Prints the place of each table by host clusters: `header 0 1`, `l1 FIRST COUNT`, `l2 L1INDEX CLUSTER OFFSET
 LENGTH COUNTER` for each L2 table, with the range of the disk that it maps and its refcount, `refcount-table
 FIRST COUNT`, and `refcount-block INDEX CLUSTER FIRST` for each block, with the first cluster that it counts.
-`edit` takes the L1INDEX, `l2` and `count` take the CLUSTER. L2 tables aren't read. Only reads.
+`edit` takes the L1INDEX, `l2` the CLUSTER of an `l2` line, `count` that of a `refcount-block` line. It reads
+no L2 table, so it notices no damage there. Only reads.
 
 Status 0: printed. 1: a fault, and no line. Faults: those of `info`, and 18 to 21 of the L1 table or of the
 refcount table.
@@ -105,9 +108,9 @@ qmeta layout IMAGE svg
 
 Prints the content of each host cluster, from 0 to the last one in use, in lines `FIRST COUNT PART`. PART is
 one of `header`, `l1`, `l2`, `refcount-table`, `refcount-block`, `data OFFSET` with the guest offset of the
-first cluster, `compressed`, `leaked`, `free`. A cluster with several uses is the first of `header`, `l1`,
-`refcount-table`, `refcount-block`, `l2` among them, else the content of the lowest guest offset. With `svg`
-it prints a picture with a legend, of at most 200 kB, for a browser. Only reads.
+first cluster, `compressed`, `leaked`, `free`. A cluster with several references is printed once: as the first
+of `header`, `l1`, `refcount-table`, `refcount-block`, `l2` that applies, else as the content of the lowest
+guest offset. With `svg` it prints a picture with a legend, of at most 200 kB, for a browser. Only reads.
 
 Status 0: printed. 1: a fault; only 34 and 35 come after a line. Faults: those of `check` without `repair`.
 
@@ -130,11 +133,18 @@ qmeta check IMAGE
 qmeta check IMAGE json
 qmeta check IMAGE repair
 
-Compares the refcount of each host cluster with its references, and each copied flag with the refcount.
-Prints `leaked`, `missing` and `shared` with FIRST COUNT COUNTER USES, and `false` and `late` flags. `short-l1
-ENTRIES NEEDED` says that the L1 table is too short for the disk. The last line is `consistent`, or how many
-there are of each. With `json` it prints numbers, as `qemu-img check --output=json` does. With `repair` it
-corrects refcounts and flags first; without it, it only reads.
+Compares the refcount of each host cluster with its references, and each copied flag with the refcount. It
+prints a line for each error, and last `consistent`, or how many clusters and flags there are of each kind:
+
+  leaked FIRST COUNT COUNTER USES   COUNT clusters from FIRST on: refcount COUNTER, fewer references, USES
+  missing FIRST COUNT COUNTER USES  more references than the refcount: a program may overwrite the clusters
+  shared FIRST COUNT COUNTER USES   the header, a table or a refcount block is there, and something else too
+  false PLACE CLUSTER COUNTER       an entry's copied flag is set, and the refcount isn't 1
+  late PLACE CLUSTER COUNTER        the flag isn't set, and the refcount is 1, or `none` in external data
+  short-l1 ENTRIES NEEDED           the L1 table is too short for the disk: the header is damaged
+
+PLACE is `l1 INDEX`, or the guest offset of an L2 entry. With `json` it prints numbers, as `qemu-img check
+--output=json` does. With `repair` it corrects refcounts and flags first; without it, it only reads.
 
 Status 0: consistent. 1: a fault. 3: only leaks and late flags, which harm nobody if the file is whole.
 4: anything worse.
@@ -149,19 +159,20 @@ const APPLY: &str = "\
 qmeta apply IMAGE EDIT..
 qmeta apply IMAGE plan EDIT..
 
-Changes what ranges of the disk read as, with all refcounts. A crash leaves leaks at most, if no two tables
-or blocks share a cluster, as `check` shows. With `plan` it prints the same and writes nothing. Without it, it
-clears the autoclear bits: persistent bitmaps are lost and their clusters leak until `qemu-img check -r leaks`
-frees them. The last line of `plan`, `stale-bitmaps N`, says how many bitmaps there are. An EDIT is one of
+Changes what ranges of the disk read as, with all refcounts. First run `check`: after status 0 or 3, a crash
+of `apply` leaves leaks at most; after 4, `apply` may free a cluster in use. With `plan` it prints the same
+and writes nothing. Without it, it clears the autoclear bits: QEMU then drops persistent bitmaps, and their
+clusters leak until `qemu-img check -r leaks`. If there are N bitmaps, `plan` prints `stale-bitmaps N` last.
+An EDIT is one of
 
-  discard:OFFSET:LENGTH    unmaps the range, which reads as the backing file; discard:OFFSET is one cluster
-  zero:OFFSET:LENGTH       makes the range read as zeros
-  keep:OFFSET:LENGTH       makes it read as zeros, and keeps its clusters
+  discard:OFFSET:LENGTH    unmaps the range: it reads as the backing file, or as zeros without one
+  zero:OFFSET:LENGTH       makes the range read as zeros, and frees its clusters; needs version 3
+  keep:OFFSET:LENGTH       makes it read as zeros, and keeps all but compressed clusters; needs version 3
   map:OFFSET:CLUSTER       maps a guest cluster to the data in a free host cluster
 
-OFFSET and LENGTH are multiples of the cluster size, LENGTH not 0, decimal or with 0x. It prints `freed FIRST
-COUNT` for clusters that are free now, `kept CLUSTER COUNTER` for those with references left, `gained
-CLUSTER` for mapped ones.
+OFFSET and LENGTH are multiples of the cluster size, LENGTH not 0, decimal or with 0x. `discard:OFFSET` is one
+cluster. It prints `freed FIRST COUNT` for clusters that are free now, `kept CLUSTER COUNTER` for one that
+lost a reference and has COUNTER left, and `gained CLUSTER` for a mapped one.
 
 Status 0: made. 1: a fault. Faults: those of `info`; 39, 41, 36, 32, 27, 23, 40, 30, and 18 to 21 of the
 tables. All but 34 and 39 come before a byte changes. `qmeta explain N` says more.
@@ -173,10 +184,12 @@ const EDIT: &str = "\
 qmeta edit IMAGE L1INDEX EDIT..
 
 Changes entries of the L2 table of an L1 entry, and no refcount: `apply` is safer. An EDIT is one of
-map:INDEX:CLUSTER, zero:INDEX, keep:INDEX, discard:INDEX. It prints `freed FIRST COUNT` and `gained CLUSTER`:
-change their refcounts by `count`. It clears the autoclear bits, so persistent bitmaps are lost, and a raw
-external data file is no longer marked as raw. Copy the image first. An IMAGE may have any name, also
-`--help`.
+map:INDEX:CLUSTER, zero:INDEX, keep:INDEX, discard:INDEX. With clusters of C bytes, L1INDEX is the guest
+offset / C / (C / 8), and INDEX is the guest offset / C mod (C / 8). It prints `freed FIRST COUNT` for
+clusters that lost a reference and `gained CLUSTER` for a mapped one: by `count`, raise the refcount of a
+mapped cluster before the edit, and lower those of freed ones after it. It clears the autoclear bits: QEMU
+then drops persistent bitmaps, and a raw external data file is no longer marked as raw. Copy the image first.
+An IMAGE may have any name, also `--help`.
 
 Status 0: all edits are made, and on the device. 1: a fault, and no edit is made; only 34 and 39 may leave
 some or all of them. Faults: those of `info`; 39, 24, 23, 32, and 18 to 21 of the tables.
@@ -187,11 +200,12 @@ some or all of them. Faults: those of `info`; 39, 24, 23, 32, and 18 to 21 of th
 const COUNT: &str = "\
 qmeta count IMAGE CLUSTER STEP..
 
-Changes refcounts of the refcount block that begins with a host cluster. A STEP is inc:INDEX or dec:INDEX. It
-prints `ok` and the refcount before each step, or `refused` if the step would pass 0 or the greatest number.
-It trusts CLUSTER, and changes whatever lies there. It clears the autoclear bits, so persistent bitmaps are
-lost, and a raw external data file is no longer marked as raw. Copy the image first. An IMAGE may have any
-name, also `--help`.
+Changes refcounts of the refcount block in host cluster CLUSTER. A STEP is inc:INDEX or dec:INDEX, and adds 1
+or takes 1 away. `tables` prints `refcount-block` lines with the CLUSTER of each block, and FIRST, the host
+cluster that INDEX 0 counts. For each step it prints `ok` and the refcount before it, or `refused` if the
+refcount would fall below 0 or rise above its greatest value. It trusts CLUSTER, and changes whatever is
+there. It clears the autoclear bits: QEMU then drops persistent bitmaps, and a raw external data file is no
+longer marked as raw. Copy the image first. An IMAGE may have any name, also `--help`.
 
 Status 0: all steps but the refused ones are made, and on the device. 1: a fault, and no step is made; only
 34 and 39 may leave some or all of them. Faults: those of `info`; 39, 24, 21, 33.
@@ -202,8 +216,9 @@ Status 0: all steps but the refused ones are made, and on the device. 1: a fault
 const L2: &str = "\
 qmeta l2 IMAGE CLUSTER_BITS CLUSTER
 
-Lists the L2 table that begins with a host cluster, without a look at the image's header. A line has the
-index of an entry, and its mapping as `list` prints it. Only reads. An IMAGE may have any name, also `--help`.
+Lists the L2 table in host cluster CLUSTER, whatever the header says: it isn't read, so CLUSTER_BITS, 9 to 21,
+gives the cluster size. A line has the index of an entry, and its mapping as `list` prints it. Only reads. An
+IMAGE may have any name, also `--help`.
 
 Status 0: printed. 1: a fault. Faults: 34 if the file can't be opened or read, 18, 19 and 21 of the table.
 
@@ -219,8 +234,8 @@ qmeta explain N
 qmeta explain N IMAGE
 qmeta version
 
-`help` prints all commands, or one command's words, lines, statuses and faults. `explain` prints all faults,
-or the rule that fault N breaks, the usual cause and a remedy. With IMAGE it adds the place in the image: the
+`help` prints all commands, or one command's arguments, output, statuses and faults. `explain` prints all
+faults, or of fault N the broken rule, the usual cause and a remedy. With IMAGE it adds the place in it: the
 header's field, the extension or the entry, each with its offset and value, or the system's error for the
 file. Only reads. `--help`, `-h` and `--version` do the same as `help` and `version`. These open no image.
 

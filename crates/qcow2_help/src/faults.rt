@@ -69,7 +69,7 @@ Restore the first cluster from a copy of the same state.
 
 const BACKING_NAME_TEXT: &str = "\
 fault 11, BackingNameText: The name of the backing file must be UTF-8.
-The name is damaged, or was written in another encoding, as Latin-1.
+The name is damaged, or was written in another encoding, such as Latin-1.
 Give the image a name in UTF-8 by `qemu-img rebase -u -b NAME -F FORMAT IMAGE`.
 ";
 
@@ -104,27 +104,27 @@ Restore the first cluster from a copy of the same state.
 ";
 
 const INCOMPATIBLE: &str = "\
-fault 17, Incompatible: No incompatible feature may be set but that of an external data file.
-The image was left dirty or corrupt, or has a feature that isn't read here, as subclusters or zstd
-compression.
+fault 17, Incompatible: The only incompatible feature that may be set is an external data file.
+The image was left dirty (bit 0x1) or corrupt (0x2), or has a feature that `qmeta` doesn't read, such as
+zstd compression (0x8) or subclusters (0x10).
 Run `qemu-img check -r all` on a dirty or corrupt image; copy any other, without its snapshots, by
-`qemu-img convert -O qcow2 IMAGE NEW`, with `-B NAME -F FORMAT` where it has a backing file.
+`qemu-img convert -O qcow2 IMAGE NEW`, with `-B NAME -F FORMAT` if it has a backing file.
 ";
 
 const ENTRY_RESERVED: &str = "\
 fault 18, EntryReserved: The reserved bits of a table entry must be 0.
 The table is damaged, or something else was written over it.
-Restore the table from a copy, or write 0 there. Of an L1 or L2 entry `qmeta check` then shows as
-leaked what it named, if that isn't lost; to give that up run `qemu-img check -r leaks`. Of the
-refcount table run `qemu-img check -r all`.
+`qmeta explain 18 IMAGE` names the entry. Restore its table from a copy, or write 0 over the entry. If
+that is in an L1 or L2 table, `qmeta check` then prints as `leaked` the clusters that it named, and
+`qemu-img check -r leaks` gives them up. If it is in the refcount table, run `qemu-img check -r all`.
 ";
 
 const ENTRY_UNALIGNED: &str = "\
 fault 19, EntryUnaligned: The offset in a table entry must be a multiple of the cluster size.
 The table is damaged, or something else was written over it.
-Restore the table from a copy, or write 0 there. Of an L1 or L2 entry `qmeta check` then shows as
-leaked what it named, if that isn't lost; to give that up run `qemu-img check -r leaks`. Of the
-refcount table run `qemu-img check -r all`.
+`qmeta explain 19 IMAGE` names the entry. Restore its table from a copy, or write 0 over the entry. If
+that is in an L1 or L2 table, `qmeta check` then prints as `leaked` the clusters that it named, and
+`qemu-img check -r leaks` gives them up. If it is in the refcount table, run `qemu-img check -r all`.
 ";
 
 const TABLE_TOO_BIG: &str = "\
@@ -135,12 +135,12 @@ Restore the first cluster from a copy of the same state.
 
 const TABLE_PLACE: &str = "\
 fault 21, TablePlace: A table or a refcount block must end at or below offset 2^56.
-An offset in the header or in a table is damaged, or a CLUSTER on the command line is too large.
-Look at the number that was given, or restore the header or the table from a copy.
-`check IMAGE repair` and `apply` also refuse a table or block with a cluster past the end of the
-image's file: it reads as zeros, so a repair would free all that the real one names. The file was
-cut short, or the offset of the table is damaged; `explain 21 IMAGE` names the table. Copy the image
-first, then run `qemu-img check`.
+An offset in the header or in a table is damaged, or a CLUSTER on the command line is too large. Or the
+file was cut short: `apply` and `check IMAGE repair` also refuse a table or block with a cluster past the
+end of the file, which reads as zeros, so that a repair would free all that the real one names.
+`qmeta explain 21 IMAGE` names the table. Restore the image, or the damaged header or table, from a copy;
+without one, save what can be read by `qemu-img convert -O qcow2 IMAGE NEW`. If the L1 table is past the
+end of the file, `qemu-img check` may find no error, and `qemu-img convert` copies an empty disk.
 ";
 
 const NO_OFFSET: &str = "\
@@ -153,12 +153,13 @@ const NOT_PLACED: &str = "\
 fault 23, NotPlaced: A table or a refcount block that is referred to must have a cluster.
 `edit` or `apply` was asked to change a range without an L2 table, or `apply` to map a cluster that
 no refcount block counts.
-Let the guest write there first, or map another cluster.
+Let the guest write there first, or map another cluster. Without a backing file, a range without an L2
+table already reads as zeros.
 ";
 
 const HEADER_TOO_LONG: &str = "\
 fault 24, HeaderTooLong: The header with its names must fit the first cluster.
-A change must clear autoclear bits, and so writes the header anew, which makes it longer.
+`edit`, `count` or a repair must clear autoclear bits, and so writes the header anew, which makes it longer.
 Shorten the backing file's name by `qemu-img rebase -u -b NAME -F FORMAT IMAGE`.
 ";
 
@@ -169,8 +170,8 @@ Tell whoever wrote that program.
 ";
 
 const FIELD_CHANGED: &str = "\
-fault 26, FieldChanged: An image that is in use must keep what its header says.
-Another program changed the header while a program that calls the library had it open; `qmeta`
+fault 26, FieldChanged: The header must not change while a program has the image open.
+Another program changed the header while a program that calls the library had the image open; `qmeta`
 doesn't look.
 Let one program alone write to the image.
 ";
@@ -194,8 +195,8 @@ Tell whoever wrote that program.
 ";
 
 const COUNTER_RANGE: &str = "\
-fault 30, CounterRange: A refcount must stay from 0 to the greatest number of its width.
-A refcount is wrong already, or a cluster has more references than its refcount can hold.
+fault 30, CounterRange: A refcount must be from 0 to the greatest number that its bits can hold.
+A refcount is too low already, or a cluster has more references than its refcount can hold.
 Run `qmeta check IMAGE`; if a repair ends in this fault, copy the image by `qemu-img convert -O qcow2
 IMAGE NEW`.
 ";
@@ -207,31 +208,32 @@ Tell whoever wrote that program.
 ";
 
 const BAD_EDIT: &str = "\
-fault 32, BadEdit: Each edit must name entries that are there, and a cluster that an entry can hold.
+fault 32, BadEdit: Each edit must name entries that exist, and a cluster that an entry can hold.
 An INDEX or a range is past the end, an OFFSET or LENGTH is no multiple of the cluster size, a LENGTH
-is 0, or a mapped cluster isn't free.
-Look at the edits again by `qmeta info` and `qmeta at`; none was made.
+is 0, or a cluster to map isn't free, is past the end of the file or has too large a number.
+No edit was made. `qmeta info` prints the size of the disk and of a cluster, and `qmeta refcount` prints
+0 for a free cluster.
 ";
 
 const BAD_STEP: &str = "\
 fault 33, BadStep: Each step must name a refcount of the refcount block.
 An INDEX is past the end of the block.
-A block has 2^(cluster-bits + 3 - refcount-order) refcounts, by the numbers of `qmeta info`; no step
-was made.
+No step was made. A block has 2^(cluster-bits + 3 - refcount-order) refcounts; `qmeta info` prints both
+numbers.
 ";
 
 const STORAGE: &str = "\
-fault 34, Storage: Each call of the file and of the output must succeed.
+fault 34, Storage: The system must open, read and write the file, and write the output, without an error.
 The file is missing, is a directory or may not be opened; or a read, a write, an fsync or the output
 failed, for example because the disk is full or a pipe was closed.
-Look at the path, its permissions, the disk's space and the output; after a failed write run `qmeta
-check IMAGE`.
+`qmeta explain 34 IMAGE` prints the system's error if the file can't be opened. Look at the path, its
+permissions, the disk's space and the output; after a failed write run `qmeta check IMAGE`.
 ";
 
 const NO_MEMORY: &str = "\
-fault 35, NoMemory: Memory must be left.
+fault 35, NoMemory: The system must have the memory that a command asks for.
 The machine or its limits have too little for the tables of this image.
-Try again with more. Nothing was changed, except that `edit` and `count` may have written the header
+Try again with more memory. Nothing was changed, except that `edit` and `count` may have written the header
 anew, and a repair may have made some or all of its steps.
 ";
 
@@ -252,24 +254,26 @@ copy.
 
 const OVERLAP: &str = "\
 fault 38, Overlap: The header, a table or a refcount block must not share its cluster.
-Something was written over it, and a repair can't know which of the two is right.
+An entry that also names this cluster is damaged, or something was written over the table or block. A
+repair can't know which.
+`qmeta explain 38 IMAGE` names the cluster; `qmeta tables` and `qmeta list` print what refers to it.
 Restore the image from a copy, or save what can be read by `qemu-img convert -O qcow2 IMAGE NEW`.
 ";
 
 const IN_USE: &str = "\
-fault 39, InUse: No other process may use an image that is changed.
+fault 39, InUse: No other process may have the image open while it is changed.
 A virtual machine, one of QEMU's programs or another `qmeta` has the image open. If it opened the image
 during the change, the writes up to then stay, as after a crash. Or `qmeta` can't tell and has changed
 nothing: the system's list of locks, /proc/locks, is missing or doesn't have the file's locks.
-End that program; `fuser -v IMAGE` names it. Then run `qmeta check IMAGE`. Without the list make sure that
-nobody has the image open, and set QMETA_NO_LOCK_LIST=allow in the environment.
+End that program; `fuser -v IMAGE` names it. Then run `qmeta check IMAGE`. If the list is missing, make sure
+that nobody has the image open, and set QMETA_NO_LOCK_LIST=allow in the environment.
 ";
 
 const SHARED: &str = "\
 fault 40, Shared: An L2 table that `apply` edits must have one reference, and its L1 entry must say so.
 A snapshot shares the table, or its refcount or copied flag is wrong.
-If the image has snapshots, let the guest write there first, or delete them; else run `qmeta check
-IMAGE repair`.
+If the image has snapshots, let the guest write to the table's range first, or delete the snapshots;
+else run `qmeta check IMAGE repair`.
 ";
 
 const L1_SHORT: &str = "\
