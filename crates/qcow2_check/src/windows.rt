@@ -100,7 +100,7 @@ impl Windows {
     }
 
     /// Counts all references to clusters from `first` on in a new tally, for as many clusters as fit. Their
-    /// number decides the shape of later windows.
+    /// number decides the shape of later windows, until a count begins again at cluster 0.
     ///
     /// Fails with the fault of an L2 table that doesn't load, or if memory runs out. Changes no byte.
     pub fn count<S: Storage>(
@@ -118,6 +118,9 @@ impl Windows {
             × (tally.end ≤ max_file_length)) }
         ensures same { self.new ≡ record self.old { is_sparse = self.new.is_sparse } }
     {
+        if first == 0 {
+            self.is_sparse = false;
+        }
         let Window {
             first,
             dense,
