@@ -11,9 +11,9 @@ use Rattle.qcow2_base.specs.declared.fault.UncountedPart.{UncountedPart}
 use Rattle.qcow2_metadata.specs.Header.{HeaderRecord, geometry_of}
 use Rattle.qcow2_metadata.specs.Results.{Reads}
 use Rattle.qcow2_metadata.specs.Table.{IsEntryFault}
-use Rattle.qcow2_check.specs.ImageTables.{OpensTables, RefusesToOpen}
+use Rattle.qcow2_check.specs.ImageTables.{opened_tables}
 use Rattle.qcow2_check.proofs.CountersLemmas.{kept_counter, same_block, same_remainder}
-use Rattle.qcow2_check.specs.Counters.{CountersState, IsKeptBlockOf, block_of_cluster, counter_of, counters_each}
+use Rattle.qcow2_check.specs.Counters.{IsKeptBlockOf, block_of_cluster, counter_of, counters_each}
 use Rattle.qcow2_base.specs.declared.types.HostCluster.{HostCluster}
 use Rattle.qcow2_metadata.specs.Refblock.{BlockState}
 use Rattle.std.proofs.lemmas.Nat.{pow_pos}
@@ -125,8 +125,8 @@ refused_for T U None fault refused = tt
 refused_for T U (Some it) fault refused = grind (arith, refused)
 
 -- tables that can't be opened
-pub refused_opening : {T : Type 0} (view : T → ImageTables) (header : HeaderRecord) (fault : Fault) (a b : StorageState) → RefusesToOpen header fault a b
-    → Reads view (Err fault) (checked_tables header) (IsCheckFault header) a b
+pub refused_opening : {T U : Type 0} {seen : U → ImageTables} (view : T → ImageTables) (header : HeaderRecord) (fault : Fault) (a b : StorageState)
+    → Reads seen (Err fault) (opened_tables header) (IsCheckFault header) a b → Reads view (Err fault) (checked_tables header) (IsCheckFault header) a b
 refused_opening view header fault a b refuses = record {
   exact = λ told. grind (arith, told, refuses.exact);
   faults = grind (arith, refuses.faults);
@@ -134,11 +134,11 @@ refused_opening view header fault a b refuses = record {
 }
 
 -- L2 tables that can't all be loaded, after the L1 table and the refcount table
-pub refused_tables : {T : Type 0} (view : T → ImageTables) (header : HeaderRecord) (l1 : List ℕ) (counters : CountersState) (fault : Fault) (a b c : StorageState)
-    → OpensTables header l1 counters a b
-    → Reads (λ (done : Unit {0}). done) (Err fault) (all_load (geometry_of header) l1) IsEntryFault b c
+pub refused_tables : {T U : Type 0} {seen : U → ImageTables} {opened : U} (view : T → ImageTables) (header : HeaderRecord) (fault : Fault) (a b c : StorageState)
+    → Reads seen (Ok opened) (opened_tables header) (IsCheckFault header) a b
+    → Reads (λ (done : Unit {0}). done) (Err fault) (all_load (geometry_of header) (seen opened).l1) IsEntryFault b c
     → Reads view (Err fault) (checked_tables header) (IsCheckFault header) a c
-refused_tables view header l1 counters fault a b c opens reads = record {
+refused_tables view header fault a b c opens reads = record {
   exact = λ told. grind (arith, told, opens, reads.exact);
   faults = grind (arith, reads.faults);
   storage = grind (arith, nat_tests, opens.storage, reads.storage);

@@ -1,9 +1,12 @@
 //! The tables of an image that name clusters, as one value.
 
-ghost use Rattle.std.specs.Prelude.{◌≡◌, IfErr, IfOk, IfSome, Err};
+ghost use Rattle.std.specs.Prelude.{◌≡◌, Err, IfOk, IfSome, None};
 ghost use Rattle.qcow2_base.specs.declared.fault.Fault.TheVariants.{Uncounted};
 ghost use Rattle.qcow2_metadata.specs.Header.{uncounted_part};
-ghost use Rattle.qcow2_check.specs.ImageTables.{IsOpenedL1, OpensTables, RefusesToOpen};
+ghost use Rattle.qcow2_metadata.specs.Results.{Reads};
+ghost use Rattle.qcow2_check.specs.Findings.{IsCheckFault};
+ghost use Rattle.qcow2_check.specs.ImageTables.{IsOpenedL1, opened_tables};
+ghost use Rattle.qcow2_check.specs.Uses.{image_tables};
 
 use crate::counters::Counters;
 use crate::named_tables::load_l1_table;
@@ -49,10 +52,13 @@ pub fn open_tables<'a, S: Storage>(
     header: &'a Header,
 ) -> Result<OpenTables<'a>, Fault>
     ensures uncounted { IfSome (uncounted_part header.now) (λ part. result ≡ Err (Uncounted part)) }
-    ensures refused { IfErr result (λ fault.
-        RefusesToOpen header.now fault (S.state image.old) (S.state image.new)) }
-    ensures opened { IfOk result (λ opened. OpensTables header.now opened.l1_table.numbers
-        opened.counters (S.state image.old) (S.state image.new)) }
+    ensures reads { Reads (λ opened. image_tables header.now opened.l1_table.numbers opened.counters.reftable)
+        result (opened_tables header.now) (IsCheckFault header.now) (S.state image.old) (S.state image.new) }
+    ensures begun { IfOk result (λ opened. opened.counters ≡ record {
+      header = header.now;
+      reftable = opened.counters.reftable;
+      block = None;
+    }) }
     ensures l1_table { IfOk result (λ opened.
         IsOpenedL1 header.now (S.state image.old) opened.l1_table) }
 {

@@ -13,14 +13,14 @@ pub returns-in_err-l1_table-clause-reads : goal.returns-in_err-l1_table-clause-r
 returns-in_err-l1_table-clause-reads g c =
     let exit = err_from_is_err_and c.from_residual.result c.from_residual.ensures.1 in
     rw (exit.1, exit.2) (refused_opening tables_of c.args.header.now _ (g.S.Storage.state c.args.image.now) (g.S.Storage.state c.open_tables.new.image)
-    c.in_err-l1_table.ensures.refused)
+    c.in_err-l1_table.ensures.reads)
 
 pub returns-in_err-tally-clause-reads : goal.returns-in_err-tally-clause-reads
 returns-in_err-tally-clause-reads g c =
     let exit = err_from_is_err_and c.from_residual-in_err-tally.result c.from_residual-in_err-tally.ensures.1 in
-    rw (exit.1, exit.2) (refused_tables tables_of c.args.header.now c.in_ok-l1_table.field-0.l1_table.numbers c.in_ok-l1_table.field-0.counters c.in_err-tally.field-0.0
+    rw (exit.1, exit.2) (refused_tables tables_of c.args.header.now c.in_err-tally.field-0.0
     (g.S.Storage.state c.args.image.now) (g.S.Storage.state c.open_tables.new.image) (g.S.Storage.state c.count.new.image)
-    c.in_ok-l1_table.ensures.opened (search rules))
+    c.in_ok-l1_table.ensures.reads (search rules))
 
 pub returns-clause-reader : goal.returns-clause-reader
 returns-clause-reader g c = λ told. record {
