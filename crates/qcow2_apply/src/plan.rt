@@ -3,7 +3,7 @@
 ghost use Rattle.std.specs.Prelude.{◌≡◌, ◌⊎◌, ◌<◌, Err, IfErr, IfOk, Ok, ◌/◌, Some};
 ghost use Rattle.qcow2_base.specs.Storage.{OnImage, OnlyReads};
 ghost use Rattle.qcow2_check.specs.Failures.{RefusesAs};
-ghost use Rattle.qcow2_metadata.specs.Results.{Answers, IsFromOutside, unless_refused};
+ghost use Rattle.qcow2_metadata.specs.Results.{IsFromOutside, unless_refused};
 ghost use Rattle.qcow2_apply.specs.Plan.{AreRead, CanBePlannedBy, IsPlanFor, IsPlanOf, RefusesEdits, edits_within};
 
 use crate::guest_edits::check_edits;

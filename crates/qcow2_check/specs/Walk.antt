@@ -73,11 +73,20 @@ guest_list tables image = list_from (l1_list (geometry_of tables.header) image) 
 abbrev pub use_list : ImageTables → Image → List Use
 use_list tables image = tables_list tables ++ guest_list tables image
 
--- how many owners there can be of a kind: entries of the L1 table, entries of the refcount table, or guest clusters
+-- how many guest clusters can have an entry: of 2 ^ 22 L2 tables with 2 ^ 18 entries each
+abbrev pub most_guest_clusters : ℕ
+most_guest_clusters = 2 ^ 40
+
+-- how many owners there can be of a kind: the header alone, entries of the refcount table, entries of the L1 table, or guest
+-- clusters
 abbrev pub most_owners : UseKind → ℕ
-most_owners L2Table = most_l1_entries
+most_owners Header = 1
+most_owners L1Table = 1
+most_owners RefcountTable = 1
 most_owners RefcountBlock = most_reftable_entries
-most_owners kind = 2 ^ 40
+most_owners L2Table = most_l1_entries
+most_owners Data = most_guest_clusters
+most_owners Compressed = most_guest_clusters
 
 -- a use's owner is one of those of its kind
 abbrev pub IsOwned : Use → Type 0

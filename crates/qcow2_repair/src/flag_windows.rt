@@ -118,8 +118,9 @@ pub(crate) fn pass_all_flags<S: Device>(
         OnImages (S.state image.old) (S.state image.new) (λ before after. MatchResult result
         (λ _. PassesFlags (pass_all tables before flag) before after)
         (λ fault. BreaksOffFlags (pass_all tables before flag) fault before after)) }
-    ensures kept { OnOk result (IsL1TableOf header.now (S.state image.new) l1_table.new)
-        × OnImages (S.state image.old) (S.state image.new) (λ _ after. OnOk result (IfSome kept.new.tally
+    ensures l1_table { OnOk result (IsL1TableOf header.now (S.state image.new) l1_table.new) }
+    ensures kept { OnImages (S.state image.old) (S.state image.new) (λ _ after. OnOk result
+        (IfSome kept.new.tally
         (CountsAll (image_tables header.now l1_table.new.numbers reftable.now.numbers) after))) }
     ensures fault { IfErr result (IsLaterFault (S.state image.old)) }
     ensures storage { ReportsFailures result (S.state image.old) (S.state image.new) }

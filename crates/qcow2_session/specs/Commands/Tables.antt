@@ -58,16 +58,23 @@ mapping_row header counter used = of_kind used.kind
     of_kind kind.Header = line.Header ∷ []
     of_kind kind.L1Table = line.L1Table used.clusters.first used.clusters.count.0 ∷ []
     of_kind kind.L2Table = l2_row header counter used.clusters.first used.owner ∷ []
-    of_kind other = []
+    of_kind kind.RefcountTable = []
+    of_kind kind.RefcountBlock = []
+    of_kind kind.Data = []
+    of_kind kind.Compressed = []
 
 -- the row of a use as the refcount table or a block of it
 abbrev pub counting_row : HeaderRecord → Use → List TableLine
 counting_row header used = of_kind used.kind
   where
     of_kind : UseKind → List TableLine
+    of_kind kind.Header = []
+    of_kind kind.L1Table = []
+    of_kind kind.L2Table = []
     of_kind kind.RefcountTable = line.RefcountTable used.clusters.first used.clusters.count.0 ∷ []
     of_kind kind.RefcountBlock = block_row header used.clusters.first used.owner ∷ []
-    of_kind other = []
+    of_kind kind.Data = []
+    of_kind kind.Compressed = []
 
 -- where everything lies in an image with these tables: first what maps the disk, and then what counts clusters
 abbrev pub rows_of : ImageTables → Image → List TableLine
