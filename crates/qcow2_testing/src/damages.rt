@@ -136,9 +136,11 @@ pub struct Loaded {
     pub l2_tables: &'static [u64],
 }
 
-/// The most loads of one L2 table by `check IMAGE repair`: one each to count references, to clear flags and
-/// to set flags, and two to check what is left.
-pub const MOST_LOADS: usize = 5;
+/// The loads of each L2 table by a repair: to count references, to clear flags and to set flags.
+pub const REPAIR_LOADS: usize = 3;
+
+/// The loads of each L2 table by `check IMAGE repair`: those of the repair, and two to check what is left.
+pub const CHECKED_REPAIR_LOADS: usize = REPAIR_LOADS + 2;
 
 /// An image that can't be repaired: changes of the sample image, and the fault.
 #[derive(Clone, Copy, Debug)]

@@ -174,7 +174,7 @@ const USES: &[Damage] = rows! {
 };
 
 // Data past all refcounts, in clusters that aren't all in one window of a check.
-const FAR_APART: Numbers<'static> = counted! {
+pub(super) const FAR_APART: Numbers<'static> = counted! {
     (NEXT_ENTRY, 256 << 9), (NEXT_ENTRY + 8, 4095 << 9), (NEXT_ENTRY + 16, 4096 << 9),
     (NEXT_ENTRY + 24, 8192 << 9), (NEXT_ENTRY + 32, LAST), (NEXT_ENTRY + 40, 1 << 40),
     (NEXT_ENTRY + 48, LAST)

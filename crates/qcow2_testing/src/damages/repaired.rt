@@ -1,5 +1,6 @@
 //! Images that can be repaired, and images that can't.
 
+use super::clusters::FAR_APART;
 use super::{LARGE_COUNTERS, LATE_TABLES, Loaded, Repair, Unrepairable};
 use crate::sample_image::{
     AUTOCLEAR, COUNTERS, COUNTERS_4, COUNTERS_8, DATA, DATA_ENTRY, EXTERNAL, L1_TABLE, L2_TABLE,
@@ -58,6 +59,11 @@ const COUNTS: &[Repair] = rows! {
         changes: counted! { (NEXT_ENTRY, 0x2_0000), (COUNTERS_8, 1) },
         left: counted! { (NEXT_ENTRY, 0x2_0000), BLOCK_END },
         lines: "missing 256 1 0 1\nleaked 0 missing 1 shared 0 false 0 late 0\n", ..CONSISTENT },
+    // a check counts these in several windows, and the last doesn't begin with cluster 0
+    Repair { name: "data far apart, past the last counter", changes: FAR_APART, left: FAR_APART,
+        lines: "missing 256 1 0 1\nmissing 4095 2 0 1\nmissing 8192 1 0 1\n\
+            missing 2147483648 1 0 1\nmissing 140737488355327 1 0 2\n\
+            leaked 0 missing 6 shared 0 false 0 late 0\n", ..CONSISTENT },
     Repair { name: "data past the last counter with the flag",
         changes: counted! { (NEXT_ENTRY, COPIED + (300 << 9)) },
         left: counted! { (NEXT_ENTRY, COPIED + (300 << 9)) },
