@@ -1,5 +1,5 @@
-//! Finds libzaqulle.a and has it linked: in the folder that `ZAQULLE_LIB_DIR` names, in the repository that this crate
-//! lies in, or where `scripts/install` put it, by `pkg-config` or in a usual folder.
+//! Finds and links libzaqulle.a: in the folder that `ZAQULLE_LIB_DIR` names, in this crate's
+//! repository, or where `scripts/install` put it, by `pkg-config` or in a usual folder.
 
 use std::env;
 use std::path::{Path, PathBuf};
@@ -8,7 +8,7 @@ use std::process::Command;
 /// The file that is linked.
 const ARCHIVE: &str = "libzaqulle.a";
 
-/// Where it is looked for last.
+/// The folders that are searched last.
 const USUAL: [&str; 2] = ["/usr/local/lib", "/usr/lib"];
 
 fn main() {
@@ -37,12 +37,13 @@ fn main() {
     println!("cargo::rustc-link-lib=static=zaqulle");
 }
 
-/// A folder, if the library is in it.
+/// Returns the folder if it has the library.
 fn with_library(folder: PathBuf) -> Option<PathBuf> {
     folder.join(ARCHIVE).is_file().then_some(folder)
 }
 
-/// The folder that the environment names. Where it has no library, nothing else is tried.
+/// The folder that the environment names. Fails the build if that isn't the absolute path of a
+/// folder with the library: no other folder is searched then.
 fn named_folder() -> Option<PathBuf> {
     let folder = PathBuf::from(env::var_os("ZAQULLE_LIB_DIR")?);
     if folder.is_relative() || !folder.join(ARCHIVE).is_file() {
@@ -64,7 +65,7 @@ fn built_folder() -> Option<PathBuf> {
     with_library(archive.parent()?.to_path_buf())
 }
 
-/// The folder that `pkg-config` knows, where there is such a command.
+/// The folder that `pkg-config` names, if this command exists.
 fn installed_folder() -> Option<PathBuf> {
     let command = env::var_os("PKG_CONFIG").unwrap_or_else(|| "pkg-config".into());
     let output = Command::new(command)
@@ -77,7 +78,7 @@ fn installed_folder() -> Option<PathBuf> {
     is_found.then_some(folder).and_then(with_library)
 }
 
-/// A usual folder, if the library is in one.
+/// The first usual folder that has the library.
 fn usual_folder() -> Option<PathBuf> {
     USUAL
         .iter()

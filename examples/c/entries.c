@@ -1,6 +1,7 @@
-/* Prints what the header of a qcow2 image says, as qmeta info does, and then what each mapped guest cluster reads as, as
- * qmeta list does, but that a table past the file's end is fault 21. Usage: entries IMAGE. The status is 1 after a fault.
- * Build it by
+/* Prints the header of a qcow2 image as qmeta info does, and then its mapped guest clusters as qmeta list does, but
+ * refuses a table past the file's end (fault 21). Usage: entries IMAGE. The status is 1 after a fault, and 2 if the
+ * image can't be read. Build it by
+ *
  * cc -I include examples/c/entries.c crates/qcow2_ffi/out/libzaqulle.a */
 #define _POSIX_C_SOURCE 200809L
 #include <fcntl.h>
@@ -66,7 +67,7 @@ static uint32_t print_table(const uint8_t *table, uint64_t size, const zq_header
 }
 
 static uint32_t print_tables(const uint8_t *image, uint64_t length, const zq_header *header) {
-    uint64_t size = UINT64_C(1) << header->cluster_bits; /* of a cluster, and so of an L2 table */
+    uint64_t size = UINT64_C(1) << header->cluster_bits; /* size of a cluster, and of an L2 table */
     uint32_t fault = ZQ_OK;
     if (header->l1_offset > length || length - header->l1_offset < 8 * (uint64_t)header->l1_entries) {
         return ZQ_TABLE_PLACE;

@@ -1,7 +1,7 @@
-/* Calls each function of zaqulle.h with 200,000 buffers, of random bytes and of headers, tables and images that were changed
- * at random, and compares what comes with a plain reading of the same bytes. Buffers lie at the edge of pages that may not
- * be touched. It ends after a minute at the latest. Usage: fuzz [COUNT [SEED]]. Prints each thing that isn't as it must be,
- * up to twenty, and then how many buffers there were. The status is 1 if one thing wasn't, and 2 if a word is no number. */
+/* Calls each function of zaqulle.h with 200,000 buffers: random bytes, and headers, tables and images that were
+ * changed at random. Compares the results with a plain reading of the same bytes. Buffers lie at the edge of
+ * inaccessible pages. Ends after a minute at the latest. Usage: fuzz [COUNT [SEED]]. Prints each failure, up to
+ * twenty, and then the numbers of buffers and failures. The status is 1 after a failure, and 2 if a word is no number. */
 #define _DEFAULT_SOURCE
 #include <inttypes.h>
 #include <stdio.h>
@@ -29,7 +29,7 @@ static void expect(const char *what, uint64_t found, uint64_t expected) {
     }
 }
 
-/* ---- What is random */
+/* ---- Random numbers and bytes */
 
 static uint64_t next_random(void) {
     random_state = random_state * UINT64_C(6364136223846793005) + UINT64_C(1442695040888963407);
@@ -47,7 +47,7 @@ static void change(uint8_t *bytes, size_t length) {
     }
 }
 
-/* A number that is mostly an entry of an L1 or L2 table, for an image of that many clusters. */
+/* Returns a number that is mostly a valid L1 or L2 entry, for an image of that many clusters. */
 static uint64_t random_entry(uint32_t cluster_bits, uint64_t clusters) {
     uint64_t copied = below(2) << 63, offset = below(clusters) << cluster_bits, sectors = below(2) << (70 - cluster_bits);
     switch (below(12)) {
@@ -63,7 +63,7 @@ static uint64_t random_entry(uint32_t cluster_bits, uint64_t clusters) {
 
 /* ---- Buffers */
 
-/* Room between pages that may not be touched. */
+/* Returns writable room between inaccessible pages. */
 static uint8_t *guarded_room(void) {
     uint8_t *pages = (uint8_t *)mmap(NULL, ROOM + 2 * PAGE, PROT_NONE, MAP_PRIVATE | MAP_ANONYMOUS, -1, 0);
     if (pages == (uint8_t *)MAP_FAILED || mprotect(pages + PAGE, ROOM, PROT_READ | PROT_WRITE) != 0) {
@@ -73,7 +73,7 @@ static uint8_t *guarded_room(void) {
     return pages + PAGE;
 }
 
-/* A copy of bytes at one of the edges of the room. */
+/* Copies bytes to one of the edges of the room. */
 static uint8_t *guarded(const uint8_t *bytes, size_t length) {
     static uint8_t *room;
     if (room == NULL) {
@@ -98,7 +98,7 @@ static uint64_t get(const uint8_t *bytes, size_t place, int size) {
     return number;
 }
 
-/* Whether a result has still the bytes that it was filled with. */
+/* FILL fills a result with a pattern, and EXPECT_UNTOUCHED expects that it still has it. */
 #define FILL(result) memset(&(result), 0xa5, sizeof(result))
 #define EXPECT_UNTOUCHED(what, result) \
     do { \
@@ -109,7 +109,7 @@ static uint64_t get(const uint8_t *bytes, size_t place, int size) {
 
 /* ---- Headers */
 
-/* The fault of the first 104 bytes of an image: of its magic, version and cluster size. */
+/* Returns the fault of the first 104 bytes of an image: of its magic, version and cluster size. */
 static uint32_t plain_first_fault(const uint8_t *bytes, size_t length) {
     if (length < 104) {
         return ZQ_WRONG_LENGTH;
@@ -121,7 +121,7 @@ static uint32_t plain_first_fault(const uint8_t *bytes, size_t length) {
                                               : ZQ_OK;
 }
 
-/* The fault of the other fixed fields of a header, which come before those on its names. */
+/* Returns the fault of the other fixed fields of a header, which are tested before its names. */
 static uint32_t plain_field_fault(const uint8_t *bytes, size_t length) {
     uint64_t size = UINT64_C(1) << get(bytes, 20, 4);
     int is_new = get(bytes, 4, 4) == 3;
@@ -163,7 +163,7 @@ static void expect_fields(const uint8_t *bytes, const zq_header *header) {
     expect_name(header, header->data_file);
 }
 
-/* The first cluster of an image of 16 clusters of 512 bytes, with a backing file. */
+/* Makes the first cluster of an image of 16 clusters of 512 bytes, with a backing file. */
 static void make_header(uint8_t *bytes) {
     memset(bytes, 0, 512);
     memcpy(bytes, "QFI\xfb", 4);
@@ -216,9 +216,9 @@ static void fuzz_header(void) {
     expect("the bytes of a header, which stay", (uint64_t)memcmp(bytes, passed, length), 0);
 }
 
-/* ---- Numbers in tables */
+/* ---- Table entries */
 
-/* What a number in an L2 table says of the guest cluster at an offset. */
+/* Decodes the L2 entry of the guest cluster at an offset. */
 static uint32_t plain_l2(uint64_t number, const zq_header *header, uint64_t guest_begin, zq_mapping *mapping) {
     uint32_t bits = header->cluster_bits;
     uint64_t size = UINT64_C(1) << bits, offset = number & UINT64_C(0xfffffffffffe00), copied = number >> 63;
@@ -240,7 +240,7 @@ static uint32_t plain_l1(uint64_t number, const zq_header *header) {
     return number & UINT64_C(0x7f000000000001ff) ? ZQ_ENTRY_RESERVED : offset % size ? ZQ_ENTRY_UNALIGNED : ZQ_OK;
 }
 
-/* The index of the first number in a table that is no entry, and its fault. */
+/* Returns the fault of the first invalid entry in a table, and stores its index. */
 static uint32_t plain_l2_check(const uint8_t *bytes, size_t count, const zq_header *header, size_t *index) {
     zq_mapping mapping;
     uint32_t fault = ZQ_OK;
@@ -268,13 +268,13 @@ static void expect_mapping(const char *what, const zq_mapping *found, const zq_m
     expect("its length", found->length, expected->length);
 }
 
-/* Whether an extent goes on where another one ends. */
+/* Whether an extent continues another one. */
 static int goes_on(const zq_extent *next, const zq_extent *last) {
     int has_place = next->kind == ZQ_DATA || next->kind == ZQ_ZERO_ALLOCATED;
     return next->kind == last->kind && (!has_place || next->offset == last->offset + last->length);
 }
 
-/* An extent reads as a mapping does that begins at an offset of its first cluster, or at one of the clusters after it. */
+/* Expects that an extent has a mapping's content at guest_offset, which lies in_cluster bytes into the mapped cluster. */
 static void expect_in_extent(const zq_extent *extent, uint64_t guest_offset, const zq_mapping *mapping, uint64_t in_cluster) {
     int has_place = mapping->kind == ZQ_DATA || mapping->kind == ZQ_ZERO_ALLOCATED || mapping->kind == ZQ_BACKING;
     expect("the kind of an extent", extent->kind, mapping->kind);
@@ -310,7 +310,7 @@ static void fuzz_number(const zq_header *header, uint64_t number) {
     }
 }
 
-/* A table or a part of one, of clusters of 512 bytes to 2 MiB. */
+/* Makes a table or a part of one, for clusters of 512 bytes to 2 MiB. */
 static size_t make_table(uint8_t *bytes, uint32_t cluster_bits) {
     size_t count = below(65), length = 8 * count + (below(16) ? 0 : below(8));
     uint64_t run = 0;
@@ -322,7 +322,7 @@ static size_t make_table(uint8_t *bytes, uint32_t cluster_bits) {
     return length;
 }
 
-/* What the entries in bytes read as from a guest offset on, in as many extents as there is room for. */
+/* Compares the extents of entries from a guest offset on with their mappings, at a random capacity. */
 static void fuzz_extents(const uint8_t *bytes, size_t length, const zq_header *header) {
     zq_extent extents[64];
     size_t capacity = below(4) ? 64 : below(8), count, index, size = (size_t)1 << header->cluster_bits;
@@ -375,14 +375,14 @@ static void fuzz_table(void) {
 
 /* ---- Refcount blocks */
 
-/* Counter i of a block: in a byte the first is the lowest, and a wider one begins with its highest byte. */
+/* Returns refcount i of a block. In a byte the first one has the lowest bits; wider ones are big-endian. */
 static uint64_t plain_counter(const uint8_t *block, uint32_t order, size_t i) {
     uint32_t width = UINT32_C(1) << order;
     return width >= 8 ? get(block, i * (width / 8), (int)(width / 8))
                       : (uint64_t)block[i * width / 8] >> (i * width % 8) & ((UINT64_C(1) << width) - 1);
 }
 
-/* How often a cluster is in ranges, or in a list. */
+/* The number of times that ranges, or a list, contain a cluster. */
 static uint64_t times_in_ranges(const zq_clusters *ranges, size_t count, uint64_t cluster) {
     uint64_t times = 0;
     for (size_t i = 0; i < count; i++) {
@@ -399,7 +399,7 @@ static uint64_t times_in_list(const uint64_t *list, size_t count, uint64_t clust
     return times;
 }
 
-/* How many entries of a table of 512 bytes refer to a cluster. */
+/* The number of entries in a table of 512 bytes that refer to a cluster. */
 static uint64_t references(const uint8_t *table, const zq_header *header, uint64_t cluster) {
     uint64_t times = 0;
     for (size_t i = 0; i < 64; i++) {
@@ -411,7 +411,8 @@ static uint64_t references(const uint8_t *table, const zq_header *header, uint64
     return times;
 }
 
-/* What the cluster of an edited entry reads as, by its last edit: the kind, and for data where it begins. */
+/* Expects that an edited entry has the content of its last edit: the kind, and for data the offset and the copied
+ * flag. */
 static void expect_edited(const uint8_t *table, const zq_header *header, const zq_edit *edit, uint32_t before) {
     zq_mapping mapping;
     plain_l2(get(table, 8 * edit->index, 8), header, 0, &mapping);
@@ -425,7 +426,8 @@ static void expect_edited(const uint8_t *table, const zq_header *header, const z
     }
 }
 
-/* After edits of a table, references and those freed are references before and those gained. Or nothing has changed. */
+/* Edits a table: references after plus those freed must equal references before plus those gained. After a fault
+ * nothing may have changed. */
 static void fuzz_edits(void) {
     uint8_t bytes[65 * 8];
     zq_header header = made_up_header(9);
@@ -485,7 +487,7 @@ static void fuzz_counters(const uint8_t *block, size_t length, uint32_t order) {
     }
 }
 
-/* Counters after edits are what they were, and what was gained, without what was freed; or one can't follow, and all stay. */
+/* Updates refcounts after edits: each must be the old one plus gains minus losses, or all unchanged if one can't be. */
 static void fuzz_settled(uint8_t *block, size_t length, uint32_t order) {
     uint8_t before[4096];
     zq_clusters freed[4];
@@ -526,7 +528,7 @@ static void fuzz_block(void) {
 
 /* ---- Whole images */
 
-/* A number of eight bytes at an offset of an image, after whose end there are zeros. */
+/* Reads a number of eight bytes at an offset of an image. Past its end the image reads as zeros. */
 static uint64_t number_in(const uint8_t *image, size_t length, uint64_t offset) {
     uint64_t number = 0;
     for (uint64_t i = 0; i < 8; i++) {
@@ -535,7 +537,7 @@ static uint64_t number_in(const uint8_t *image, size_t length, uint64_t offset) 
     return number;
 }
 
-/* What the cluster of a guest offset reads as, by an image's tables. */
+/* Finds the mapping of a guest offset's cluster in the tables of an image. */
 static uint32_t plain_lookup(const uint8_t *image, size_t length, const zq_header *header, uint64_t offset, zq_mapping *mapping) {
     uint64_t bits = header->cluster_bits, index = offset >> (2 * bits - 3), entries = UINT64_C(1) << (bits - 3), table;
     uint32_t fault = header->l1_entries > 4194304 ? ZQ_TABLE_TOO_BIG
@@ -554,7 +556,7 @@ static uint32_t plain_lookup(const uint8_t *image, size_t length, const zq_heade
     return fault;
 }
 
-/* An image of 16 clusters: the header, the L1 table, two L2 tables, the refcount table, a block, and data. */
+/* Makes an image of 16 clusters: the header, the L1 table, two L2 tables, the refcount table, a block, and data. */
 static size_t make_image(uint8_t *image) {
     memset(image, 0, 16 * 512);
     make_header(image);
@@ -572,7 +574,7 @@ static size_t make_image(uint8_t *image) {
     return below(4) ? 16 * 512 : below(16 * 512 + 1);
 }
 
-/* The fault of an image's header, whose cluster ends with zeros where the image is shorter. */
+/* Reads the header of an image, and returns its fault. If the image is shorter than the cluster, zeros follow. */
 static uint32_t read_header(const uint8_t *image, size_t length, zq_header *header) {
     static uint8_t cluster[1 << 21];
     size_t size = 1 << 21, kept = length < size ? length : size;
@@ -583,7 +585,7 @@ static uint32_t read_header(const uint8_t *image, size_t length, zq_header *head
     return fault;
 }
 
-/* What the disk of an image reads as from an offset on, in as many extents as there is room for. */
+/* Compares the extents of an image's disk from an offset on with lookups, at a random capacity. */
 static void fuzz_disk(const uint8_t *image, size_t length, const zq_header *header, uint32_t header_fault) {
     static zq_extent extents[256];
     size_t capacity = below(4) ? 256 : below(8), count;
@@ -609,7 +611,7 @@ static void fuzz_disk(const uint8_t *image, size_t length, const zq_header *head
         expect("the end of the extents of an image", (uint64_t)(count == capacity || at >= header->size), 1);
         return;
     }
-    /* The fault is that of the first table from there on that has one, or that of the L1 table. */
+    /* The fault must be that of the L1 table, or of the first L2 table from there on that has one. */
     uint64_t range = UINT64_C(1) << (2 * header->cluster_bits - 3);
     for (int left = 8; cluster_fault == ZQ_OK && left > 0; left--, at = (at / range + 1) * range) {
         cluster_fault = plain_lookup(image, length, header, at < header->size ? at : UINT64_MAX, &mapping);
@@ -617,7 +619,7 @@ static void fuzz_disk(const uint8_t *image, size_t length, const zq_header *head
     expect("zq_image_extents", fault, cluster_fault);
 }
 
-/* Findings of an image are in order, and each is what its numbers say. */
+/* Checks an image: findings must be in the order of clusters, and their kinds must match their numbers. */
 static void fuzz_check(const uint8_t *image, size_t length) {
     zq_finding findings[16];
     zq_check_totals totals;
@@ -657,7 +659,7 @@ static void fuzz_image(void) {
     expect("the bytes of an image, which stay", (uint64_t)memcmp(image, passed, length), 0);
 }
 
-/* ---- All of them */
+/* ---- The whole run */
 
 int main(int count, char **words) {
     static void (*const parts[])(void) = {fuzz_header, fuzz_table, fuzz_edits, fuzz_block, fuzz_image};

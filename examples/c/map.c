@@ -1,8 +1,11 @@
-/* Prints what the whole disk of a qcow2 image reads as, extent by extent, as qmeta map does. The image is mapped into
- * memory, so that only what is looked at is read. Usage: map IMAGE. The status is 1 after a fault, and 2 where the image
- * can't be read. What is known before a fault is printed. Build it by
+/* Prints the extents of a qcow2 image's disk, as qmeta map does. Maps the image into memory, so that only the parts
+ * that the library needs are read. Usage: map IMAGE. Prints the extents before a fault. The status is 1 after a fault,
+ * and 2 if the image can't be read. Build it by
+ *
  * cc -I include examples/c/map.c crates/qcow2_ffi/out/libzaqulle.a
- * or, where the library is installed, by
+ *
+ * or, if the library is installed, by
+ *
  * cc examples/c/map.c $(pkg-config --cflags --libs zaqulle) */
 #define _POSIX_C_SOURCE 200809L
 #include <fcntl.h>
@@ -14,10 +17,10 @@
 
 #include <zaqulle.h>
 
-/* How many extents are asked for at once. Each call reads the header and the L1 table anew. */
+/* The number of extents that one call asks for. Each call reads the header and the L1 table again. */
 enum { ROOM = 4096 };
 
-/* The bytes of a file, as memory that may only be read; NULL where that fails. */
+/* Maps a file into read-only memory. Returns NULL if that fails. */
 static const uint8_t *mapped(const char *path, size_t *length) {
     static const uint8_t none[1] = {0};
     struct stat status;
@@ -46,7 +49,7 @@ static void print_extent(const zq_extent *extent) {
     }
 }
 
-/* Prints all extents, or those before a fault, which it returns. */
+/* Prints all extents, or those before a fault, and returns the fault. */
 static uint32_t print_map(const uint8_t *image, size_t length) {
     static zq_extent extents[ROOM];
     uint64_t from_offset = 0;

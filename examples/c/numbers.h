@@ -7,8 +7,9 @@
 #include <stdlib.h>
 #include <string.h>
 
-/* Whether a word is a number below 2^64, which is stored: decimal digits, or hexadecimal ones after 0x, and nothing else. By
- * itself strtoull passes over blanks, takes a sign and octal digits, and leaves what it can't read. */
+/* Reads a word as a number below 2^64, and returns whether it is one: decimal digits, or hexadecimal ones after 0x,
+ * and nothing else. strtoull alone skips blanks, accepts a sign and octal digits, and ignores a rest that it can't
+ * read. */
 static int read_number(const char *word, uint64_t *number) {
     int is_hexadecimal = strncmp(word, "0x", 2) == 0;
     const char *digits = is_hexadecimal ? word + 2 : word;

@@ -1,9 +1,12 @@
-/* Discards all guest clusters that lie whole in a range of the guest's disk, and gives back their host clusters. Reads
- * tables and writes them by its own calls. Usage: trim IMAGE OFFSET LENGTH, in bytes. The status is 1 after a fault, and 2
- * where something can't be read, written or done by this program, or a word is no number. Nobody else may use the image: no
- * lock is taken. A crash or a failure at any time leaves clusters that are lost at most. Build it by
+/* Discards all guest clusters that lie wholly in a range of the guest's disk, and frees their host clusters. Reads and
+ * writes the tables by its own calls. Usage: trim IMAGE OFFSET LENGTH, in bytes. The status is 1 after a fault, and 2
+ * if this program can't read, write or trim the image, or a word is no number. It takes no lock: make sure that nobody
+ * else uses the image. A crash or a failure at any time only leaks clusters. Build it by
+ *
  * cc -I include examples/c/trim.c crates/qcow2_ffi/out/libzaqulle.a
- * or, where the library is installed, by
+ *
+ * or, if the library is installed, by
+ *
  * cc examples/c/trim.c $(pkg-config --cflags --libs zaqulle) */
 #define _POSIX_C_SOURCE 200809L
 #include <fcntl.h>
@@ -89,7 +92,7 @@ static int counts_freed(uint64_t index, uint64_t counters) {
     return 0;
 }
 
-/* Takes the references that were freed from the counters, and writes these, or only tries whether that can be done. */
+/* Subtracts the freed references from the refcounts and writes their blocks, or only tries whether that can be done. */
 static void settle_blocks(int is_try) {
     uint64_t counters = (uint64_t)cluster_size * 8 >> header.refcount_order;
     uint64_t blocks = (uint64_t)header.reftable_clusters * (cluster_size / 8);
@@ -109,7 +112,7 @@ static void settle_blocks(int is_try) {
     }
 }
 
-/* Discards entries of an L2 table, from one up to another. */
+/* Discards the entries of an L2 table from first up to end, which isn't included. */
 static void trim_table(uint64_t l1_index, uint64_t first, uint64_t end) {
     uint64_t offset;
     uint32_t copied;
@@ -128,7 +131,7 @@ static void trim_table(uint64_t l1_index, uint64_t first, uint64_t end) {
     stop_at(zq_l2_edit(table, cluster_size, &header, edits, (size_t)(end - first), freed, MOST_ENTRIES, &freed_count, NULL, 0,
                        &gained_count, &bad));
     settle_blocks(1);
-    /* The table has no reference to a cluster any more before its counter says so. */
+    /* The table first: a crash in between leaks clusters, and does nothing worse. */
     write_cluster(offset, table);
     sync_image();
     settle_blocks(0);

@@ -1,75 +1,80 @@
-//! What a check of a whole image finds.
+//! Checks of whole images.
 
 use crate::{Fault, raw};
 
-/// A host cluster that something is wrong with.
+/// A wrong host cluster: its refcount isn't its number of references, or these exclude each other.
 #[repr(C)]
 #[derive(Clone, Copy, Debug, Default, PartialEq, Eq, Hash)]
 pub struct Finding {
     kinds: u32,
     reserved: u32,
-    /// Its number: its offset divided by the cluster size.
+    /// The number of the cluster: its host offset divided by the cluster size.
     pub cluster: u64,
-    /// What its counter says, which is 0 where it has none.
+    /// Its refcount: 0 if no refcount block counts it.
     pub counter: u64,
-    /// How many uses it has.
+    /// The number of references to it.
     pub uses: u64,
 }
 
 impl Finding {
-    /// Whether the counter is greater than the number of uses: space is lost.
+    /// Whether the refcount is greater than the number of references: space is lost.
     #[must_use]
     pub fn is_leaked(&self) -> bool {
         self.kinds & 1 != 0
     }
 
-    /// Whether it is smaller: a program may take the cluster for free, and write over it.
+    /// Whether the refcount is smaller than the number of references: a program may take the
+    /// cluster for free, and overwrite it.
     #[must_use]
     pub fn is_missing(&self) -> bool {
         self.kinds & 2 != 0
     }
 
-    /// Whether its uses exclude each other: one wrote over the other.
+    /// Whether its references exclude each other, as those of guest data and of a table.
     #[must_use]
     pub fn is_shared(&self) -> bool {
         self.kinds & 4 != 0
     }
 }
 
-/// How much is wrong with an image.
+/// The numbers of wrong clusters and copied flags in an image.
 #[repr(C)]
 #[derive(Clone, Copy, Debug, Default, PartialEq, Eq, Hash)]
 pub struct CheckTotals {
-    /// How many clusters something is wrong with.
+    /// Wrong clusters.
     pub findings: u64,
-    /// How many of them are leaked.
+    /// Leaked clusters among them.
     pub leaked: u64,
-    /// How many are missing.
+    /// Missing clusters among them.
     pub missing: u64,
-    /// How many are shared.
+    /// Shared clusters among them.
     pub shared: u64,
-    /// How many copied flags are set in an entry whose cluster has a counter other than 1.
+    /// Copied flags that are set though the cluster's refcount isn't 1.
     pub false_flags: u64,
-    /// How many aren't set, though the counter is 1, or the cluster has none.
+    /// Copied flags that aren't set though the refcount is 1 or the cluster has none.
     pub late_flags: u64,
 }
 
 impl CheckTotals {
-    /// Whether nothing is wrong.
+    /// Whether nothing is wrong: all numbers are 0.
     #[must_use]
     pub fn is_consistent(&self) -> bool {
         self.findings == 0 && self.false_flags == 0 && self.late_flags == 0
     }
 }
 
-/// Compares the counters and copied flags of a whole image with what its tables say. Puts the clusters that something is
-/// wrong with into a list, in their order, as many as it has room for, and returns how much is wrong in all. After its last
-/// byte an image has zeros. After a fault but [`Fault::NoMemory`] the list is as it was.
+/// Checks an image by all its bytes: finds clusters whose refcount isn't their number of references
+/// or whose references exclude each other, and wrong copied flags. Writes as many findings as fit
+/// into `findings`, in the order of clusters, and returns the totals of the whole check. Elements
+/// of `findings` after them are unchanged. Past its last byte the image reads as zeros.
 ///
 /// # Errors
 ///
-/// 1 to 21, of the header and its tables, the first that is refused; [`Fault::Uncounted`] for an image with snapshots,
-/// bitmaps or LUKS encryption; [`Fault::NoMemory`].
+/// A fault of the header (1 to 17); then [`Fault::Uncounted`] (37) for an image with snapshots,
+/// bitmaps or LUKS encryption; then the first fault of its tables (18 to 21); [`Fault::NoMemory`]
+/// (35).
+///
+/// After an error other than 35 `findings` is unchanged.
 ///
 /// ```
 /// use zaqulle::Finding;

@@ -1,28 +1,30 @@
-//! Edits of L2 tables, and what they do to references.
+//! Edits of L2 tables, and the references that clusters lose and gain by them.
 
 use std::error::Error;
 use std::fmt::{self, Display, Formatter};
 
 use crate::{Clusters, Fault, Header, raw};
 
-/// A change of what one guest cluster reads as. The index is that of its entry in the table; 0 is the first.
+/// A change of the content of one guest cluster. The index is that of its entry in the table; 0 is
+/// the first.
 #[derive(Clone, Copy, Debug, PartialEq, Eq, Hash)]
 pub enum Edit {
-    /// Data in the host cluster that begins at an offset, which nothing else refers to. That is not looked at.
+    /// Data in a host cluster without another reference. The call doesn't check that there is none.
     Map {
         /// The index of its entry.
         index: u64,
-        /// Where the host cluster begins, in bytes.
+        /// The offset of the host cluster, in bytes.
         host_offset: u64,
     },
-    /// Zeros. With `keep_allocation` an entry keeps its host cluster, but compressed data is freed all the same.
+    /// Zeros. With `keep_allocation` an entry keeps its host cluster, but compressed data is still
+    /// freed.
     Zero {
         /// The index of its entry.
         index: u64,
         /// Whether an entry keeps its host cluster.
         keep_allocation: bool,
     },
-    /// Data of the backing file, or zeros where there is none.
+    /// Data of the backing file, or zeros if there is none.
     Discard {
         /// The index of its entry.
         index: u64,
@@ -48,23 +50,25 @@ impl Edit {
     }
 }
 
-/// What edits did to references, in the order of the edits. [`settle_refcounts`](crate::settle_refcounts) takes it.
+/// The references that clusters lost and gained, in the order of the edits.
+/// [`settle_refcounts`](crate::settle_refcounts) takes both lists.
 ///
-/// Where guest data lies in an external data file, only clusters of compressed data are the image's.
+/// With an external data file, only the clusters of compressed data are clusters of the image.
 #[derive(Clone, Debug, Default, PartialEq, Eq, Hash)]
 pub struct Outcome {
     /// The clusters that lost a reference each.
     pub freed: Vec<Clusters>,
-    /// The clusters that gained one, by their numbers.
+    /// The numbers of the clusters that gained a reference.
     pub gained: Vec<u64>,
 }
 
-/// Why a table isn't edited.
+/// The refusal of a list of edits.
 #[derive(Clone, Copy, Debug, PartialEq, Eq, Hash)]
 pub struct RefusedEdits {
     /// The fault.
     pub fault: Fault,
-    /// Of [`Fault::BadEdit`] the position of the first bad edit, and of a fault of an entry its index.
+    /// For [`Fault::BadEdit`] the position of the first bad edit, for the fault of an entry its
+    /// index.
     pub place: Option<usize>,
 }
 
@@ -76,24 +80,27 @@ impl Display for RefusedEdits {
 
 impl Error for RefusedEdits {}
 
-/// Makes edits in the bytes of a whole L2 table, one after the other: all of them, or none. After a fault the bytes are as
-/// they were.
+/// Makes edits in the bytes of a whole L2 table, one after another, all or none. Returns the
+/// references that clusters lost and gained.
 ///
-/// So that a crash only leaks clusters: write counters that go up first, then the table, and then counters that go down, and
-/// let the file reach the disk after each.
+/// A crash only leaks clusters if you write the raised refcounts first, then the table, then the
+/// lowered refcounts, with an fsync after each.
 ///
 /// # Errors
 ///
-/// [`Fault::VersionNeeded`] for zeros in an image of version 2, then [`Fault::WrongLength`] where the bytes aren't as many
-/// as a cluster has, then [`Fault::EntryReserved`] or [`Fault::EntryUnaligned`] of the first number that is no entry. Then
-/// [`Fault::BadEdit`] of the first edit past the table's end, or to an offset at which no cluster begins that an entry can
-/// hold; [`Fault::NoMemory`].
+/// [`Fault::VersionNeeded`] (27) for zeros in an image of version 2; then [`Fault::WrongLength`]
+/// (31) if the number of bytes isn't the cluster size; then [`Fault::EntryReserved`] (18) or
+/// [`Fault::EntryUnaligned`] (19) of the first invalid entry; then [`Fault::BadEdit`] (32) of the
+/// first edit past the table's end, or to a host offset that isn't a multiple of the cluster size
+/// or that an entry can't hold; [`Fault::NoMemory`] (35).
+///
+/// After an error `bytes` is unchanged.
 ///
 /// ```
 /// use zaqulle::{Clusters, Edit};
 /// # let path = "../../crates/qmeta/data/disk.qcow2";
 /// let header = zaqulle::read_header(&std::fs::read(path)?)?;
-/// // Data in the host cluster at 0xa00, which becomes cluster 7.
+/// // Data in the host cluster at 0xa00, and then in cluster 7.
 /// let mut table = [0; 512];
 /// table[..8].copy_from_slice(&0x8000_0000_0000_0a00_u64.to_be_bytes());
 /// let edits = [Edit::Map { index: 0, host_offset: 7 * 512 }];

@@ -1,52 +1,52 @@
-//! What numbers in L1 and L2 tables say.
+//! The meaning of L1 and L2 entries.
 
 use crate::{Fault, Header, raw};
 
-/// Where an L2 table lies, by an L1 entry.
+/// The L2 table that an L1 entry names.
 #[derive(Clone, Copy, Debug, PartialEq, Eq, Hash)]
 pub struct L2Pointer {
-    /// Where the L2 table begins. It has one cluster.
+    /// The host offset of the L2 table, which has one cluster.
     pub offset: u64,
-    /// Whether the entry says that the refcount of that table is exactly one.
+    /// The entry's copied flag: whether it says that the table's refcount is exactly one.
     pub copied: bool,
 }
 
-/// What a guest cluster reads as. Offsets and lengths are in bytes.
+/// The content of a guest cluster. Offsets and lengths are in bytes.
 #[derive(Clone, Copy, Debug, PartialEq, Eq, Hash)]
 #[non_exhaustive]
 pub enum Mapping {
-    /// Data of the backing file, or zeros where there is none.
+    /// Data of the backing file, or zeros if there is none.
     Backing {
-        /// Where the cluster begins in the backing file.
+        /// The offset of the cluster in the backing file.
         offset: u64,
-        /// How many bytes it has.
+        /// The cluster size.
         length: u64,
     },
-    /// Data of the data file: the image, or its external data file.
+    /// Data in the data file, which is the image or its external data file.
     Data {
-        /// Where the cluster begins in the data file.
+        /// The offset of the cluster in the data file.
         offset: u64,
-        /// How many bytes it has.
+        /// The cluster size.
         length: u64,
-        /// Whether the entry says that the refcount of the cluster is exactly one.
+        /// The copied flag: whether the entry says that the cluster's refcount is exactly one.
         copied: bool,
     },
-    /// Zeros.
+    /// Zeros without a cluster.
     Zeros,
-    /// Zeros, and a cluster of the data file is kept all the same.
+    /// Zeros with an allocated cluster of the data file.
     AllocatedZeros {
-        /// Where the cluster begins in the data file.
+        /// The offset of the cluster in the data file.
         offset: u64,
-        /// How many bytes it has.
+        /// The cluster size.
         length: u64,
-        /// Whether the entry says that the refcount of the cluster is exactly one.
+        /// The copied flag: whether the entry says that the cluster's refcount is exactly one.
         copied: bool,
     },
-    /// Compressed data of the image.
+    /// Compressed data in the image.
     Compressed {
-        /// Where the data begins in the image.
+        /// The offset of the data in the image.
         offset: u64,
-        /// How many bytes it has at most.
+        /// An upper bound of the data's length.
         length: u64,
     },
 }
@@ -79,20 +79,20 @@ impl Mapping {
     }
 }
 
-/// A number in an L2 table that is no entry.
+/// An invalid entry of an L2 table.
 #[derive(Clone, Copy, Debug, PartialEq, Eq, Hash)]
 pub struct BadEntry {
-    /// Which number it is; 0 is the first.
+    /// The index of the entry; 0 is the first.
     pub index: usize,
-    /// Why it is none: [`Fault::EntryReserved`] or [`Fault::EntryUnaligned`].
+    /// The fault of the entry: [`Fault::EntryReserved`] or [`Fault::EntryUnaligned`].
     pub fault: Fault,
 }
 
-/// Where the L2 table lies that a number in an L1 table names, if it names one.
+/// Decodes an L1 entry: returns the L2 table that it names, if it names one.
 ///
 /// # Errors
 ///
-/// [`Fault::EntryReserved`], [`Fault::EntryUnaligned`].
+/// [`Fault::EntryReserved`] (18), [`Fault::EntryUnaligned`] (19).
 ///
 /// ```
 /// # let path = "../../crates/qmeta/data/disk.qcow2";
@@ -109,18 +109,17 @@ pub fn l1_entry(entry: u64, header: &Header) -> Result<Option<L2Pointer>, Fault>
     Ok((offset != 0).then_some(L2Pointer { offset, copied }))
 }
 
-/// What the guest cluster with this offset in it reads as, by its number in an L2 table. The mapping is that of the whole
-/// cluster.
+/// Decodes the L2 entry of a guest offset's cluster. The mapping is that of the whole cluster.
 ///
 /// # Errors
 ///
-/// [`Fault::EntryReserved`], [`Fault::EntryUnaligned`].
+/// [`Fault::EntryReserved`] (18), [`Fault::EntryUnaligned`] (19).
 ///
 /// ```
 /// use zaqulle::Mapping;
 /// # let path = "../../crates/qmeta/data/disk.qcow2";
 /// let header = zaqulle::read_header(&std::fs::read(path)?)?;
-/// // A copied entry that names the host cluster at 0x5000.
+/// // An entry with the copied flag and the host cluster at 0x5000.
 /// let mapping = zaqulle::l2_entry(0x8000_0000_0000_5000, &header, 0)?;
 /// assert_eq!(mapping, Mapping::Data { offset: 0x5000, length: 512, copied: true });
 /// # Ok::<(), Box<dyn std::error::Error>>(())
@@ -129,11 +128,12 @@ pub fn l2_entry(entry: u64, header: &Header, guest_offset: u64) -> Result<Mappin
     raw::l2_entry(entry, &header.0, guest_offset).map(Mapping::new)
 }
 
-/// The first number in the bytes of an L2 table, or of a part of one, that is no entry, if there is one.
+/// Returns the first invalid entry in the bytes of an L2 table, or of a part of one, if there is
+/// one.
 ///
 /// # Errors
 ///
-/// [`Fault::WrongLength`] where the length is no multiple of 8.
+/// [`Fault::WrongLength`] (31) if the number of bytes isn't a multiple of 8.
 ///
 /// ```
 /// use zaqulle::{BadEntry, Fault};

@@ -1,31 +1,31 @@
-//! What parts of the guest's disk read as.
+//! Extents of the guest's disk.
 
 use crate::{Fault, Header, raw};
 
-/// What an extent reads as. An offset is that of its first byte, in bytes.
+/// The content of an extent. The number is the offset of its first byte, in bytes.
 #[derive(Clone, Copy, Debug, PartialEq, Eq, Hash)]
 #[non_exhaustive]
 pub enum Content {
-    /// What the backing file has there, or zeros where there is none.
+    /// Data of the backing file, or zeros if there is none.
     Backing,
-    /// Data of the data file: the image, or its external data file.
+    /// Data in the data file, which is the image or its external data file.
     Data(u64),
-    /// Zeros.
+    /// Zeros without clusters.
     Zeros,
-    /// Zeros, and clusters of the data file are kept all the same.
+    /// Zeros with allocated clusters of the data file.
     AllocatedZeros(u64),
     /// Compressed data, each cluster by itself.
     Compressed,
 }
 
-/// A part of the guest's disk that reads as one.
+/// A part of the guest's disk with content of one kind.
 #[derive(Clone, Copy, Debug, PartialEq, Eq, Hash)]
 pub struct Extent {
-    /// Where it begins on the guest's disk, in bytes.
+    /// The guest offset of its first byte.
     pub start: u64,
-    /// How many bytes it has. Never 0.
+    /// The length in bytes. Never 0.
     pub length: u64,
-    /// What it reads as.
+    /// The content.
     pub content: Content,
 }
 
@@ -47,20 +47,21 @@ impl Extent {
     }
 }
 
-/// What the entries in the bytes of an L2 table, or of a part of one, read as, joined to extents. The first entry is for
-/// the guest cluster at this offset. Each extent is as long as it can be within these bytes.
+/// Joins the entries in the bytes of an L2 table, or of a part of one, into extents. The first
+/// entry is that of the guest cluster at `first_guest_offset`. Each extent is as long as possible
+/// within these bytes.
 ///
 /// # Errors
 ///
-/// [`Fault::WrongLength`] where the bytes aren't whole entries or are more than a cluster, where the offset isn't that of
-/// a cluster, and where a guest cluster would end at 2^64 or past it. Then [`Fault::EntryReserved`] or
-/// [`Fault::EntryUnaligned`], of the first number that is no entry.
+/// [`Fault::WrongLength`] (31) if the bytes aren't whole entries or exceed a cluster, if the offset
+/// isn't a multiple of the cluster size, or if a guest cluster would end at or past 2^64; then
+/// [`Fault::EntryReserved`] (18) or [`Fault::EntryUnaligned`] (19) of the first invalid entry.
 ///
 /// ```
 /// use zaqulle::{Content, Extent};
 /// # let path = "../../crates/qmeta/data/disk.qcow2";
 /// let header = zaqulle::read_header(&std::fs::read(path)?)?;
-/// // Data in the host clusters at 0x5000 and after it, and zeros.
+/// // Data in the host clusters at 0x5000 and 0x5200, and zeros.
 /// let numbers = [0x8000_0000_0000_5000_u64, 0x8000_0000_0000_5200, 1];
 /// let bytes = numbers.map(u64::to_be_bytes).concat();
 /// let extents = zaqulle::l2_extents(&bytes, &header, 0)?;
@@ -75,25 +76,25 @@ pub fn l2_extents(
     header: &Header,
     first_guest_offset: u64,
 ) -> Result<Vec<Extent>, Fault> {
-    // More than a cluster is refused, and needs no room.
+    // The call refuses more bytes than a cluster, so they need no room.
     let room = bytes.len().min(header.cluster_size()) / 8;
     let mut found = vec![raw::Extent::default(); room];
     let count = raw::l2_extents(bytes, &header.0, first_guest_offset, &mut found)?;
     Ok(found[..count].iter().map(Extent::new).collect())
 }
 
-/// How many extents of an image are asked for at once.
+/// The number of extents that one call asks for.
 const ROOM: usize = 1024;
 
-/// The extents of an image, as [`image_extents`] finds them.
+/// An iterator over the extents of an image, made by [`image_extents`].
 #[derive(Clone, Debug)]
 pub struct ImageExtents<'bytes> {
     bytes: &'bytes [u8],
-    /// Where the extent begins that comes after those that were found.
+    /// The guest offset where the next call goes on.
     offset: u64,
-    /// Those that were found, the last first.
+    /// The extents that were found and not yet returned, the last one first.
     found: Vec<Extent>,
-    /// What comes after them: others, the end, or a fault and then the end.
+    /// The rest after them: more extents, the end, or a fault and then the end.
     rest: Rest,
 }
 
@@ -104,13 +105,14 @@ enum Rest {
     End,
 }
 
-/// What the guest's disk reads as from an offset on, by the bytes of a whole image, extent by extent. After its last byte
-/// an image has zeros. Each extent is as long as it can be. None comes from the end of the disk on.
+/// Returns an iterator over the extents of the guest's disk from an offset on, by the bytes of a
+/// whole image. Each extent is as long as possible. From the disk's end on there are none. Past its
+/// last byte the image reads as zeros.
 ///
 /// # Errors
 ///
-/// 1 to 21 of the header, the L1 table or an L2 table, or [`Fault::NoMemory`], after the extents that are known before it.
-/// Nothing comes after a fault.
+/// The iterator returns a fault of the header, the L1 table or an L2 table (1 to 21), or
+/// [`Fault::NoMemory`] (35), after the extents before it, and then ends.
 ///
 /// ```
 /// use zaqulle::{Content, Extent, Fault};

@@ -1,4 +1,4 @@
-//! Why a call refuses.
+//! The faults that calls return.
 
 use std::error::Error;
 use std::fmt::{self, Display, Formatter};
@@ -6,10 +6,11 @@ use std::fmt::{self, Display, Formatter};
 /// Declares the faults by their names, numbers and sentences.
 macro_rules! faults {
     ($($name:ident, $number:literal, $text:literal;)*) => {
-        /// Why a call refuses: each fault has a number, which is never used for another, and a sentence that says what
-        /// must hold.
+        /// The reason why a call refuses. Each fault has a number, which is never used for another,
+        /// and a sentence that says what must hold.
         ///
-        /// Its [`Display`] prints the sentence. The doc comment of a call names the faults that it can return.
+        /// [`Display`] prints the sentence. The doc comment of a call names the faults that it can
+        /// return.
         ///
         /// ```
         /// use zaqulle::{Fault, header_bytes};
@@ -26,15 +27,15 @@ macro_rules! faults {
                 #[doc = concat!("Fault ", $number, ": ", $text, ".")]
                 $name,
             )*
-            /// A fault of a later library, which this crate has no name for, by its number.
+            /// A fault of a later library by its number: this crate has no name for it.
             Unknown(u32),
         }
 
         impl Fault {
-            /// All faults that have a name, in the order of their numbers, which begin at 1.
+            /// All faults that have a name, by their numbers from 1 on.
             pub const NAMED: &[Fault] = &[$(Fault::$name),*];
 
-            /// The number of the fault, as the program `qmeta` prints it.
+            /// The fault's number, as the program `qmeta` prints it.
             #[must_use]
             pub fn number(self) -> u32 {
                 match self {
@@ -43,7 +44,7 @@ macro_rules! faults {
                 }
             }
 
-            /// The fault with a number, or none for 0.
+            /// The fault with a number, or `None` for 0.
             #[must_use]
             pub fn from_number(number: u32) -> Option<Fault> {
                 match number {

@@ -1,13 +1,14 @@
-//! What the header of an image says.
+//! The header in the first cluster of an image.
 
 use crate::{Fault, raw};
 
-/// How many bytes the first cluster of an image has, by its first 104 bytes (more may follow): as many as
-/// [`read_header`] needs. They are 512 to 2 MiB.
+/// Returns the cluster size, 512 bytes to 2 MiB, from the first 104 bytes of an image. More bytes
+/// may follow. [`read_header`] needs that many bytes: the first cluster.
 ///
 /// # Errors
 ///
-/// [`Fault::WrongLength`] for fewer than 104 bytes, [`Fault::NotQcow2`], [`Fault::Version`], [`Fault::ClusterSize`].
+/// [`Fault::WrongLength`] (31) for fewer than 104 bytes, then [`Fault::NotQcow2`] (1),
+/// [`Fault::Version`] (2), [`Fault::ClusterSize`] (3).
 ///
 /// ```
 /// # let mut image = vec![0; 1 << 16];
@@ -22,13 +23,14 @@ pub fn header_bytes(first_bytes: &[u8]) -> Result<usize, Fault> {
     raw::header_bytes(first_bytes)
 }
 
-/// What the header of an image says, by the bytes of its first cluster (more may follow). If the image is shorter than
-/// that, add zeros.
+/// Decodes the header of an image from the bytes of its first cluster. More bytes may follow. If
+/// the image is shorter, append zeros.
 ///
 /// # Errors
 ///
-/// Those of [`header_bytes`], then [`Fault::WrongLength`] for fewer bytes than the cluster has, then 1 to 17 by the first
-/// condition of the format that the header fails; [`Fault::NoMemory`].
+/// Those of [`header_bytes`]; then [`Fault::WrongLength`] (31) for fewer bytes than the cluster
+/// has; then one of [`Fault::HeaderShort`] (4) to [`Fault::Incompatible`] (17), by the first
+/// condition of the format that the header breaks; [`Fault::NoMemory`] (35).
 ///
 /// ```
 /// # let path = "../../crates/qmeta/data/disk.qcow2";
@@ -43,43 +45,43 @@ pub fn read_header(bytes: &[u8]) -> Result<Header, Fault> {
     raw::header_read(bytes).map(Header)
 }
 
-/// What a header says that [`read_header`] accepted. It can't be made otherwise.
+/// The header of an image. Only [`read_header`] makes one, so it is valid.
 #[derive(Clone, Copy, Debug, PartialEq, Eq, Hash)]
 pub struct Header(pub(crate) raw::Header);
 
 impl Header {
-    /// 2 or 3. In an image of version 2 the refcount order is 4, all features are 0, and only the backing file may have a
-    /// name.
+    /// The version, 2 or 3. In version 2 the refcount order is 4, all features are 0, and only the
+    /// backing file may have a name.
     #[must_use]
     pub fn version(&self) -> u32 {
         self.0.version
     }
 
-    /// The logarithm of a cluster's bytes, from 9 to 21.
+    /// The binary logarithm of the cluster size in bytes, from 9 to 21.
     #[must_use]
     pub fn cluster_bits(&self) -> u32 {
         self.0.cluster_bits
     }
 
-    /// How many bytes a cluster has.
+    /// The cluster size in bytes.
     #[must_use]
     pub fn cluster_size(&self) -> usize {
         1 << self.0.cluster_bits
     }
 
-    /// How many entries an L2 table has.
+    /// The number of entries in an L2 table.
     #[must_use]
     pub fn l2_entries(&self) -> usize {
         self.cluster_size() / 8
     }
 
-    /// The logarithm of a refcount's bits, from 0 to 6.
+    /// The binary logarithm of a refcount's width in bits, from 0 to 6.
     #[must_use]
     pub fn refcount_order(&self) -> u32 {
         self.0.refcount_order
     }
 
-    /// How many counters a refcount block has.
+    /// The number of refcounts in a refcount block.
     #[must_use]
     pub fn block_entries(&self) -> usize {
         (self.cluster_size() * 8) >> self.0.refcount_order
@@ -91,31 +93,31 @@ impl Header {
         self.0.crypt_method
     }
 
-    /// How many bytes the guest's disk has.
+    /// The size of the guest's disk in bytes.
     #[must_use]
     pub fn size(&self) -> u64 {
         self.0.size
     }
 
-    /// Where the L1 table begins: a multiple of the cluster size.
+    /// The host offset of the L1 table, a multiple of the cluster size.
     #[must_use]
     pub fn l1_offset(&self) -> u64 {
         self.0.l1_offset
     }
 
-    /// How many entries the L1 table has.
+    /// The number of entries in the L1 table.
     #[must_use]
     pub fn l1_entries(&self) -> u32 {
         self.0.l1_entries
     }
 
-    /// Where the refcount table begins: a multiple of the cluster size.
+    /// The host offset of the refcount table, a multiple of the cluster size.
     #[must_use]
     pub fn reftable_offset(&self) -> u64 {
         self.0.reftable_offset
     }
 
-    /// How many clusters the refcount table takes.
+    /// The number of clusters in the refcount table.
     #[must_use]
     pub fn reftable_clusters(&self) -> u32 {
         self.0.reftable_clusters
@@ -127,50 +129,53 @@ impl Header {
         self.0.incompatible_features != 0
     }
 
-    /// The features that may be left aside, as bits.
+    /// The features that a program may ignore, as bits.
     #[must_use]
     pub fn compatible_features(&self) -> u64 {
         self.0.compatible_features
     }
 
-    /// The features that who writes to the image without knowing them clears, as bits.
+    /// The features that a program clears if it writes to the image and doesn't know them, as bits.
     #[must_use]
     pub fn autoclear_features(&self) -> u64 {
         self.0.autoclear_features
     }
 
-    /// Where the table of snapshots begins.
+    /// The host offset of the snapshot table.
     #[must_use]
     pub fn snapshots_offset(&self) -> u64 {
         self.0.snapshots_offset
     }
 
-    /// How many snapshots there are.
+    /// The number of snapshots.
     #[must_use]
     pub fn snapshots(&self) -> u32 {
         self.0.snapshots
     }
 
-    /// The backing file's name, if there is one, out of the bytes that the header was read from.
+    /// The backing file's name, if there is one. Takes the bytes that the header was read from.
     #[must_use]
     pub fn backing_name<'bytes>(&self, bytes: &'bytes [u8]) -> Option<&'bytes str> {
         text(self.0.backing_name, bytes)
     }
 
-    /// The name of the backing file's format, if there is one, out of the bytes that the header was read from.
+    /// The name of the backing file's format, if there is one. Takes the bytes that the header was
+    /// read from.
     #[must_use]
     pub fn backing_format<'bytes>(&self, bytes: &'bytes [u8]) -> Option<&'bytes str> {
         text(self.0.backing_format, bytes)
     }
 
-    /// The name of the external data file, if there is one, out of the bytes that the header was read from.
+    /// The name of the external data file, if there is one. Takes the bytes that the header was
+    /// read from.
     #[must_use]
     pub fn data_file<'bytes>(&self, bytes: &'bytes [u8]) -> Option<&'bytes str> {
         text(self.0.data_file, bytes)
     }
 }
 
-/// The text of a name. Of other bytes it may be any text, or none that the header was read from.
+/// The text of a name, in the bytes that the header was read from. Other bytes may give any text,
+/// or none.
 fn text(name: raw::Name, bytes: &[u8]) -> Option<&str> {
     let begin = usize::try_from(name.offset)
         .ok()

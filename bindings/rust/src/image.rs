@@ -1,13 +1,14 @@
-//! What the bytes of a whole image say, which may be mapped memory.
+//! Lookups by the bytes of a whole image, which may be mapped memory.
 
 use crate::{Fault, Mapping, raw};
 
-/// What the cluster of a guest offset reads as, by the bytes of a whole image. After its last byte an image has zeros.
-/// The size of the guest's disk isn't looked at.
+/// Returns the mapping of a guest offset's cluster, by the bytes of a whole image. Past its last
+/// byte the image reads as zeros. Ignores the size of the guest's disk.
 ///
 /// # Errors
 ///
-/// 1 to 21, of the header, the L1 table and the L2 table, the first that is refused; [`Fault::NoMemory`].
+/// The first fault of the header, the L1 table and the L2 table (1 to 21); [`Fault::NoMemory`]
+/// (35).
 ///
 /// ```
 /// # let path = "../../crates/qmeta/data/disk.qcow2";

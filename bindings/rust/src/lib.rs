@@ -1,19 +1,21 @@
-//! What qcow2 disk images say, by bytes that you have read yourself.
+//! Reads, edits and checks qcow2 metadata in bytes that the program has read or mapped itself.
 //!
-//! This is the library Zaqulle for Rust: safe calls of `libzaqulle.a`, of which each sentence on what a call returns is
-//! proved. No call reads or writes a file, and none prints. Nothing is kept between calls, so several threads may call at
-//! once. Offsets and lengths are in bytes. Tables hold numbers of eight bytes, big-endian: an entry is passed as a number.
+//! This is the library Zaqulle for Rust: safe calls of `libzaqulle.a`, whose functions are proved
+//! to return what `zaqulle.h` says. This crate is tested, not proved. No call reads or writes a
+//! file, and none prints. There is no global state, so all calls are thread-safe. Offsets and
+//! lengths are in bytes. Tables hold big-endian numbers of eight bytes; an entry is passed as a
+//! number.
 //!
 //! | To | Call |
 //! |---|---|
 //! | read a header | [`header_bytes`], [`read_header`] |
-//! | read an entry of a table | [`l1_entry`], [`l2_entry`], [`first_bad_l2_entry`] |
-//! | read an L2 table as extents | [`l2_extents`] |
+//! | decode an entry of a table | [`l1_entry`], [`l2_entry`], [`first_bad_l2_entry`] |
+//! | join the entries of an L2 table into extents | [`l2_extents`] |
 //! | edit an L2 table | [`edit_l2_table`] |
-//! | read counters of a refcount block, and let them follow edits | [`read_refcounts`], [`settle_refcounts`] |
+//! | read and update refcounts of a block | [`read_refcounts`], [`settle_refcounts`] |
 //! | look up a guest offset in a whole image | [`image_lookup`] |
-//! | read all extents of a whole image | [`image_extents`] |
-//! | check the counters of a whole image | [`image_check`] |
+//! | list the extents of a whole image | [`image_extents`] |
+//! | check a whole image | [`image_check`] |
 //!
 //! ```
 //! # let path = "../../crates/qmeta/data/disk.qcow2";
@@ -29,8 +31,9 @@
 //!
 //! # The library
 //!
-//! `scripts/build-c-library` builds it, and `scripts/install` installs it. It is linked from the folder that
-//! `ZAQULLE_LIB_DIR` names, else from the repository that this crate lies in, else from where `pkg-config` finds it.
+//! `scripts/build-c-library` builds the library, and `scripts/install` installs it. This crate
+//! links it from the folder that `ZAQULLE_LIB_DIR` names, else from the crate's repository, else
+//! from where `pkg-config` finds it, else from `/usr/local/lib` or `/usr/lib`.
 //!
 //! All unsafe code is in one module, `raw`, which passes slices on as pointers with their lengths.
 

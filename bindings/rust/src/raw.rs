@@ -1,7 +1,7 @@
 //! The declarations of `zaqulle.h` and their calls: the only unsafe code of this crate.
 //!
-//! A slice is passed as its pointer and its length, and a result as a place of its type that nothing else refers to. That
-//! is all that the functions need of their pointers.
+//! Each call passes a slice as its pointer and its length, and a result as a place of its type that
+//! nothing else refers to. The functions require no more of their pointers.
 #![allow(unsafe_code)]
 
 use crate::{CheckTotals, Clusters, Fault, Finding};
@@ -150,56 +150,57 @@ unsafe extern "C" {
     ) -> u32;
 }
 
-/// What a call that returned this number returns.
+/// Returns the value if the number is 0, else the fault with this number.
 fn outcome<T>(number: u32, value: T) -> Result<T, Fault> {
     Fault::from_number(number).map_or(Ok(value), Err)
 }
 
 pub(crate) fn header_bytes(bytes: &[u8]) -> Result<usize, Fault> {
     let mut size = 0;
-    // SAFETY: as the module says of all calls.
+    // SAFETY: the call passes its pointers as the module's comment says.
     let number = unsafe { zq_header_bytes(bytes.as_ptr(), bytes.len(), &mut size) };
     outcome(number, size)
 }
 
 pub(crate) fn header_read(bytes: &[u8]) -> Result<Header, Fault> {
     let mut header = Header::default();
-    // SAFETY: as the module says of all calls.
+    // SAFETY: the call passes its pointers as the module's comment says.
     let number = unsafe { zq_header_read(bytes.as_ptr(), bytes.len(), &mut header) };
     outcome(number, header)
 }
 
 pub(crate) fn l1_entry(entry: u64, header: &Header) -> Result<(u64, bool), Fault> {
     let (mut offset, mut copied) = (0, 0);
-    // SAFETY: as the module says of all calls.
+    // SAFETY: the call passes its pointers as the module's comment says.
     let number = unsafe { zq_l1_entry(entry, header, &mut offset, &mut copied) };
     outcome(number, (offset, copied != 0))
 }
 
 pub(crate) fn l2_entry(entry: u64, header: &Header, guest_offset: u64) -> Result<Mapping, Fault> {
     let mut mapping = Mapping::default();
-    // SAFETY: as the module says of all calls.
+    // SAFETY: the call passes its pointers as the module's comment says.
     let number = unsafe { zq_l2_entry(entry, header, guest_offset, &mut mapping) };
     outcome(number, mapping)
 }
 
-/// Beside a fault comes the index of the number that has it, where the fault is one of an entry.
+/// Returns the fault with the index of the first invalid entry. The index is 0 for faults other
+/// than 18 and 19.
 pub(crate) fn l2_check(bytes: &[u8], header: &Header) -> Result<(), (Fault, usize)> {
     let mut index = 0;
-    // SAFETY: as the module says of all calls.
+    // SAFETY: the call passes its pointers as the module's comment says.
     let number = unsafe { zq_l2_check(bytes.as_ptr(), bytes.len(), header, &mut index) };
     outcome(number, ()).map_err(|fault| (fault, index))
 }
 
 pub(crate) fn image_lookup(bytes: &[u8], guest_offset: u64) -> Result<Mapping, Fault> {
     let mut mapping = Mapping::default();
-    // SAFETY: as the module says of all calls.
+    // SAFETY: the call passes its pointers as the module's comment says.
     let number =
         unsafe { zq_image_lookup(bytes.as_ptr(), bytes.len(), guest_offset, &mut mapping) };
     outcome(number, mapping)
 }
 
-/// Returns how many extents there are, at most as many as there is room for.
+/// Returns the number of extents, at most as many as fit.
 pub(crate) fn l2_extents(
     bytes: &[u8],
     header: &Header,
@@ -208,7 +209,7 @@ pub(crate) fn l2_extents(
 ) -> Result<usize, Fault> {
     let (room, capacity) = (extents.as_mut_ptr(), extents.len());
     let mut count = 0;
-    // SAFETY: as the module says of all calls.
+    // SAFETY: the call passes its pointers as the module's comment says.
     let number = unsafe {
         zq_l2_extents(
             bytes.as_ptr(),
@@ -223,7 +224,8 @@ pub(crate) fn l2_extents(
     outcome(number, count)
 }
 
-/// Returns how many clusters were freed and gained. Beside a fault comes the place of what is bad, where it has one.
+/// Returns the numbers of freed ranges and of gained clusters, or the fault, with the position of
+/// the bad edit or the index of the invalid entry if it has one.
 pub(crate) fn l2_edit(
     bytes: &mut [u8],
     header: &Header,
@@ -233,7 +235,7 @@ pub(crate) fn l2_edit(
 ) -> Result<(usize, usize), (Fault, Option<usize>)> {
     let (begin, length) = (bytes.as_mut_ptr(), bytes.len());
     let (mut freed_count, mut gained_count, mut bad) = (0, 0, usize::MAX);
-    // SAFETY: as the module says of all calls.
+    // SAFETY: the call passes its pointers as the module's comment says.
     let number = unsafe {
         zq_l2_edit(
             begin,
@@ -254,7 +256,8 @@ pub(crate) fn l2_edit(
     outcome(number, (freed_count, gained_count)).map_err(|fault| (fault, place))
 }
 
-/// Returns how many extents there are, at most as many as there is room for, and the fault that comes after them.
+/// Returns the number of extents, at most as many as fit, and the fault after them, if there is
+/// one.
 pub(crate) fn image_extents(
     bytes: &[u8],
     from_offset: u64,
@@ -262,7 +265,7 @@ pub(crate) fn image_extents(
 ) -> (usize, Option<Fault>) {
     let (room, capacity) = (extents.as_mut_ptr(), extents.len());
     let mut count = 0;
-    // SAFETY: as the module says of all calls.
+    // SAFETY: the call passes its pointers as the module's comment says.
     let number = unsafe {
         zq_image_extents(
             bytes.as_ptr(),
@@ -283,7 +286,7 @@ pub(crate) fn refcounts_read(
     counters: &mut [u64],
 ) -> Result<(), Fault> {
     let (places, count) = (counters.as_mut_ptr(), counters.len());
-    // SAFETY: as the module says of all calls.
+    // SAFETY: the call passes its pointers as the module's comment says.
     let number =
         unsafe { zq_refcounts_read(bytes.as_ptr(), bytes.len(), order, first, places, count) };
     outcome(number, ())
@@ -297,7 +300,7 @@ pub(crate) fn refcounts_settle(
     gained: &[u64],
 ) -> Result<(), Fault> {
     let (begin, length) = (bytes.as_mut_ptr(), bytes.len());
-    // SAFETY: as the module says of all calls.
+    // SAFETY: the call passes its pointers as the module's comment says.
     let number = unsafe {
         zq_refcounts_settle(
             begin,
@@ -316,7 +319,7 @@ pub(crate) fn refcounts_settle(
 pub(crate) fn image_check(bytes: &[u8], findings: &mut [Finding]) -> Result<CheckTotals, Fault> {
     let (room, capacity) = (findings.as_mut_ptr(), findings.len());
     let (mut count, mut totals) = (0, CheckTotals::default());
-    // SAFETY: as the module says of all calls.
+    // SAFETY: the call passes its pointers as the module's comment says.
     let number = unsafe {
         zq_image_check(
             bytes.as_ptr(),

@@ -1,24 +1,26 @@
-//! What the bytes of a refcount block say, and how they follow edits.
+//! The refcounts in the bytes of a refcount block.
 
 use crate::{Fault, raw};
 
-/// Host clusters in a row.
+/// Consecutive host clusters.
 #[repr(C)]
 #[derive(Clone, Copy, Debug, Default, PartialEq, Eq, Hash)]
 pub struct Clusters {
-    /// The first of them, by its number: its offset divided by the cluster size.
+    /// The number of the first cluster: its host offset divided by the cluster size.
     pub first: u64,
-    /// How many there are.
+    /// The number of clusters.
     pub count: u64,
 }
 
-/// Reads counters of a refcount block from an index on, as many as there are places for. A counter has
-/// `1 << refcount_order` bits. After a fault all places are as they were.
+/// Reads refcounts from the bytes of a whole refcount block into all of `counters`, from index
+/// `first` on. A refcount has `1 << refcount_order` bits.
 ///
 /// # Errors
 ///
-/// [`Fault::RefcountWidth`] for an order past 6, then [`Fault::WrongLength`] where the bytes aren't as many as a cluster
-/// has, then [`Fault::BadStep`] where the block has fewer counters.
+/// [`Fault::RefcountWidth`] (8) for an order past 6; then [`Fault::WrongLength`] (31) if the number
+/// of bytes is no cluster size; then [`Fault::BadStep`] (33) for refcounts past the block's end.
+///
+/// After an error `counters` is unchanged.
 ///
 /// ```
 /// let mut block = vec![0; 512];
@@ -37,17 +39,20 @@ pub fn read_refcounts(
     raw::refcounts_read(bytes, refcount_order, first, counters)
 }
 
-/// Changes the counters of a refcount block by what edits of L2 tables freed and gained: one less for each cluster that was
-/// freed, and one more for each that was gained. Clusters that other blocks count are passed over. The block is that of this
-/// index of the refcount table. After a fault the bytes are as they were.
+/// Updates the refcounts in the bytes of a whole refcount block after edits of L2 tables: adds one
+/// for each time that `gained` names a cluster, and subtracts one for each element of `freed` that
+/// contains it. Skips clusters that other blocks count. `block_index` is the block's index in the
+/// refcount table.
 ///
-/// Where guest data lies in an external data file, its clusters have no counters: don't pass them.
+/// The clusters of an external data file have no refcounts: don't pass them.
 ///
 /// # Errors
 ///
-/// [`Fault::RefcountWidth`] for an order past 6, then [`Fault::WrongLength`] where the bytes aren't as many as a cluster
-/// has, then [`Fault::CounterRange`] where a counter with all its gains passes the greatest number that it can hold, or is
-/// less than its losses; [`Fault::NoMemory`].
+/// [`Fault::RefcountWidth`] (8) for an order past 6; then [`Fault::WrongLength`] (31) if the number
+/// of bytes is no cluster size; then [`Fault::CounterRange`] (30) if a refcount plus its gains
+/// exceeds the largest value of its width, or is less than its losses; [`Fault::NoMemory`] (35).
+///
+/// After an error `bytes` is unchanged.
 ///
 /// ```
 /// use zaqulle::Clusters;

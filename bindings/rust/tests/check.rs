@@ -1,11 +1,11 @@
-//! What a check of a whole image finds.
+//! Checks of whole images.
 
 mod images;
 
 use images::{COPIED, image, put};
 use zaqulle::{CheckTotals, Fault, Finding, image_check};
 
-/// An image whose header, tables and block are counted, and clusters 10 to 12 as often as this says.
+/// An image whose header, tables and block have refcount 1, and clusters 10 to 12 these refcounts.
 fn counted(l2_entries: &[u64], counters: [u64; 3]) -> Vec<u8> {
     let mut bytes = image(l2_entries);
     for cluster in 0..5 {
@@ -44,7 +44,7 @@ fn wrong_counters_and_flags_are_found() {
     assert_eq!((missing.cluster, missing.counter, missing.uses), (11, 0, 1));
     assert!(missing.is_missing() && !missing.is_leaked() && !missing.is_shared());
     assert_eq!(others, [Finding::default(); 2]);
-    // There may be more of them than there is room for.
+    // There may be more findings than fit.
     let mut first = [Finding::default(); 1];
     assert_eq!(image_check(&bytes, &mut first), Ok(expected));
     assert_eq!(first, [leaked]);

@@ -11,7 +11,7 @@ fn edits_are_made_in_turn() {
     let mut table = vec![0; 512];
     put(&mut table, 0, 8, COPIED | 0x1400);
     put(&mut table, 8, 8, COPIED | 0x1600);
-    // data of clusters 11 and 12
+    // compressed data in clusters 11 and 12
     put(&mut table, 16, 8, 1 << 62 | 1 << 61 | 0x1700);
     let edits = [
         Edit::Map {

@@ -1,4 +1,4 @@
-//! What numbers in tables say.
+//! L1 and L2 entries, and lookups in whole images.
 
 mod images;
 
@@ -176,7 +176,7 @@ fn an_offset_is_looked_up_in_a_whole_image() {
     assert_eq!(image_lookup(&bytes, 0), Err(Fault::EntryReserved));
 }
 
-/// Several threads may call at once.
+/// Lookups are thread-safe.
 #[test]
 fn threads_look_up_the_same_bytes() {
     let bytes = image(&[COPIED | 0x1400]);

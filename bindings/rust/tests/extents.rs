@@ -1,4 +1,4 @@
-//! What parts of the disk read as.
+//! Extents of L2 tables and of whole images.
 
 mod images;
 
@@ -74,7 +74,7 @@ fn extents_of_an_image_cover_its_disk() {
     assert_eq!(image_extents(&bytes, u64::MAX).next(), None);
 }
 
-/// More extents than are asked for at once: 4096 of one cluster each, in 64 tables.
+/// The image has more extents than one call asks for: 4096 of one cluster each, in 64 tables.
 #[test]
 fn many_extents_come_one_after_another() {
     let (tables, cluster) = (64, 512);
@@ -96,7 +96,7 @@ fn many_extents_come_one_after_another() {
     assert_eq!(extents.unwrap(), expected.collect::<Vec<_>>());
 }
 
-/// What is known before a fault comes before it, and nothing after it.
+/// The iterator returns the extents before a fault, then the fault, then nothing.
 #[test]
 fn a_fault_ends_the_extents() {
     let mut bytes = image(&[0, 1]);

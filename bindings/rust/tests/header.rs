@@ -1,11 +1,11 @@
-//! What headers say, and which faults refuse them.
+//! Fields and names of headers, and the faults of invalid headers.
 
 mod images;
 
 use images::{image, put};
 use zaqulle::{Fault, header_bytes, read_header};
 
-/// Each field has a number of its own, and is found where the library has it.
+/// Each field has a number of its own, so the test fails if fields are swapped.
 #[test]
 fn each_field_is_what_its_bytes_say() {
     let mut bytes = image(&[]);
@@ -67,7 +67,7 @@ fn names_are_texts_of_the_first_cluster() {
     assert_eq!(header.backing_name(&bytes), Some("bäse"));
     assert_eq!(header.backing_format(&bytes), Some("raw"));
     assert_eq!(header.data_file(&bytes), Some("ab"));
-    // Other bytes than those that the header was read from have no names, or other ones.
+    // In bytes other than those that the header was read from, names are missing or different.
     assert_eq!(header.backing_name(&bytes[..511]), None);
     assert_eq!(header.backing_name(&[0xff; 512]), None);
     assert_eq!(header.backing_name(&[]), None);

@@ -1,4 +1,4 @@
-//! What the bytes of refcount blocks say, and counters that follow edits.
+//! Refcounts of blocks, and their updates after edits.
 
 mod images;
 
@@ -45,7 +45,7 @@ fn clusters(first: u64, count: u64) -> Clusters {
 
 #[test]
 fn counters_follow_what_was_freed_and_gained_in_their_block() {
-    // The second block has the counters of the clusters from 256 on.
+    // The second block counts the clusters from 256 on.
     let mut block = vec![0; 512];
     put(&mut block, 0, 2, 3);
     put(&mut block, 510, 2, 1);

@@ -1,7 +1,8 @@
-//! Prints what the whole disk of a qcow2 image reads as, extent by extent, as `qmeta map` does. It reads the header and the
-//! tables alone, so an image may be of any size.
+//! Prints the extents of a qcow2 image's disk, as `qmeta map` does. Reads only the header and the
+//! tables, so the image may be of any size.
 //!
-//! Usage: `map IMAGE`. The status is 1 after a fault, and what is known before it is printed.
+//! Usage: `map IMAGE`. Prints the extents that are known before a fault. The status is 1 after a
+//! fault or an I/O error, and 2 for other arguments.
 
 use std::env;
 use std::error::Error;
@@ -12,13 +13,13 @@ use std::process::ExitCode;
 
 use zaqulle::{Content, Extent, Fault, Header, header_bytes, l1_entry, l2_extents, read_header};
 
-/// How many entries an L1 table may have.
+/// The largest number of entries in an L1 table.
 const MOST_L1_ENTRIES: u32 = 4_194_304;
 
-/// Where a table ends at most.
+/// The largest offset where a table may end.
 const GREATEST_END: u64 = 1 << 56;
 
-/// The bytes of a part of a file. After its end there are zeros.
+/// Reads bytes from a file. Past its end they are zeros.
 fn read_part(file: &File, offset: u64, length: usize) -> io::Result<Vec<u8>> {
     let mut bytes = vec![0; length];
     let mut filled = 0;
@@ -31,13 +32,14 @@ fn read_part(file: &File, offset: u64, length: usize) -> io::Result<Vec<u8>> {
     Ok(bytes)
 }
 
-/// The header of an image.
+/// Reads the header of an image.
 fn header_of(file: &File) -> Result<Header, Box<dyn Error>> {
     let size = header_bytes(&read_part(file, 0, 104)?)?;
     Ok(read_header(&read_part(file, 0, size)?)?)
 }
 
-/// Where the L2 tables lie, by the L1 table. There is none where an entry is `None`.
+/// Reads the L1 table, and returns the host offset of each L2 table, or `None` if the entry names
+/// none.
 fn l2_offsets(file: &File, header: &Header) -> Result<Vec<Option<u64>>, Box<dyn Error>> {
     let length = 8 * u64::from(header.l1_entries());
     if header.l1_entries() > MOST_L1_ENTRIES {
@@ -59,7 +61,7 @@ fn l2_offsets(file: &File, header: &Header) -> Result<Vec<Option<u64>>, Box<dyn 
     Ok(offsets)
 }
 
-/// Whether an extent goes on where another one ends.
+/// Whether an extent continues another one.
 fn goes_on(next: &Extent, last: &Extent) -> bool {
     match (last.content, next.content) {
         (Content::Data(offset), Content::Data(next)) => next == offset + last.length,
@@ -82,14 +84,14 @@ fn print(extent: &Extent, out: &mut impl Write) -> io::Result<()> {
     }
 }
 
-/// Prints extents that follow one another, joined where they read as one.
+/// Prints extents in order, joined if one continues another.
 struct Printer<W> {
     out: W,
     last: Option<Extent>,
 }
 
 impl<W: Write> Printer<W> {
-    /// Prints what is surely whole now that this extent comes.
+    /// Takes the next extent. Prints the last one, unless this one continues it.
     fn push(&mut self, extent: Extent) -> io::Result<()> {
         match &mut self.last {
             Some(last) if goes_on(&extent, last) => last.length += extent.length,
@@ -101,7 +103,7 @@ impl<W: Write> Printer<W> {
         Ok(())
     }
 
-    /// Prints the last extent, to which nothing comes.
+    /// Prints the last extent, which no other one continues.
     fn print_last(&mut self) -> io::Result<()> {
         self.last
             .take()
@@ -109,7 +111,7 @@ impl<W: Write> Printer<W> {
     }
 }
 
-/// Prints the extents of an image. Tables past the end of the disk aren't read.
+/// Prints the extents of an image. Doesn't read L2 tables past the disk's end.
 fn print_map(file: &File, out: &mut impl Write) -> Result<(), Box<dyn Error>> {
     let header = header_of(file)?;
     let size = header.size();

@@ -1,19 +1,20 @@
-//! Images in memory, written field by field. A file of tests uses some of this.
+//! Images in memory, written field by field. Each file of tests uses a part of this.
 #![allow(dead_code)]
 
-/// The size of their clusters.
+/// The cluster size of the images.
 pub const CLUSTER: usize = 512;
 
-/// What an entry has whose cluster has exactly one reference.
+/// The copied flag of an entry: its cluster has refcount 1.
 pub const COPIED: u64 = 1 << 63;
 
-/// Puts the bytes of a number at a place, the highest first.
+/// Writes a number in `size` bytes at an offset, big-endian.
 pub fn put(bytes: &mut [u8], place: usize, size: usize, number: u64) {
     bytes[place..place + size].copy_from_slice(&number.to_be_bytes()[8 - size..]);
 }
 
-/// An image of version 3 with clusters of 512 bytes, whose L1 table of one entry is in cluster 1, and whose L2 table in
-/// cluster 2. The disk has as many guest clusters as the table has entries. Its counters have 16 bits, in cluster 4.
+/// An image of version 3 with clusters of 512 bytes. Its L1 table, of one entry, is in cluster 1,
+/// its L2 table in cluster 2, its refcount table in cluster 3, and its refcount block, of 16-bit
+/// refcounts, in cluster 4. The disk has as many guest clusters as the L2 table has entries.
 pub fn image(l2_entries: &[u64]) -> Vec<u8> {
     let mut bytes = vec![0; 16 * CLUSTER];
     bytes[..4].copy_from_slice(b"QFI\xfb");
