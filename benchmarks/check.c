@@ -1,8 +1,9 @@
-/* Checks an image by plain C, to time beside `qmeta check`: one walk over the tables counts the references of each cluster
- * in an array, and a second compares the copied flags with the refcounts, which are compared with the counts at the end.
- * It takes images of version 3 without snapshots, with refcounts of 16 bits and data in clusters of the file, and trusts
- * them. scripts/time-against-qemu builds and times it. By hand: cc -O2 benchmarks/check.c -o check, and ./check IMAGE.
- * It prints `consistent`, or how many clusters are leaked or missing and how many flags false or late, as `qmeta check`. */
+/* Checks an image by plain C, to time beside `qmeta check`: one walk over the tables counts the references to each
+ * cluster in an array, a second compares the copied flags with the refcounts, and the end compares the refcounts with
+ * the references. It takes images of version 3 without snapshots, with refcounts of 16 bits and data in clusters of the
+ * file, and trusts them. scripts/time-against-qemu builds and times it. By hand: cc -O2 benchmarks/check.c -o check,
+ * and ./check IMAGE. It prints `consistent`, or the numbers of leaked and missing clusters and of false and late flags,
+ * and then has status 3. The status is 2 if it doesn't take the image, or a call fails. */
 #define _FILE_OFFSET_BITS 64
 #define _POSIX_C_SOURCE 200809L
 #include <fcntl.h>
@@ -21,7 +22,7 @@ static uint32_t bits;
 static uint64_t clusters, false_flags, late_flags;
 static uint16_t *uses, *refcounts;
 
-/* Reads bytes of the image, which are zeros past its end, into as much memory, which it takes where there is none. */
+/* Reads bytes of the image, zeros past its end, into memory, which it takes if `bytes` is NULL. */
 static void *read_at(uint64_t offset, uint64_t length, void *bytes) {
     if (bytes == NULL && (bytes = malloc(length + 1)) == NULL)
         exit(2);
@@ -49,7 +50,7 @@ static void compare_flag(uint64_t entry) {
     late_flags += is_sole & !is_set;
 }
 
-/* An L2 entry: what it refers to, or whether its flag is right. */
+/* Counts the references of an entry, or compares its copied flag if `flags` is set. */
 static void take_entry(uint64_t entry, int flags) {
     uint64_t width = 70 - bits, offset = entry & ((UINT64_C(1) << width) - 1);
     if (entry & COMPRESSED && !flags)
@@ -60,7 +61,7 @@ static void take_entry(uint64_t entry, int flags) {
         uses[(entry & OFFSET) >> bits]++;
 }
 
-/* A walk over an L1 table and the L2 tables that it names: for references, or for flags. */
+/* Walks over an L1 table and the L2 tables that it names, for references or for flags. */
 static void walk(const uint64_t *l1_table, uint64_t count, uint64_t *table, int flags) {
     for (uint64_t i = 0; i < count; i++) {
         uint64_t named = __builtin_bswap64(l1_table[i]);

@@ -1,6 +1,6 @@
-//! The work of `qcow2_benchmark` in plain Rust. A table is read from an image in memory entry by entry. It is
-//! written as there, through an array of 4096 bytes that is copied to the image (`write`), and by one
-//! byte-swapping copy straight into the image (`copy`). Prints the least time of a round in nanoseconds.
+//! Does the work of `qcow2_benchmark` in plain Rust. It reads a table from an image in memory entry by entry. It writes
+//! it as that does, through an array of 4096 bytes that it copies to the image (`write`), and by one byte-swapping copy
+//! straight into the image (`copy`). Prints the least time of a round in nanoseconds.
 
 use std::hint::black_box;
 use std::time::Instant;

@@ -1,10 +1,11 @@
-/* Calls each function of zaqulle.h with input that no caller should pass, and checks the fault and that results stay as
- * they were. Compares what 200,000 numbers in an L2 table say, what 400 tables join to, counters of refcount blocks, and edits
- * of 4,000 tables with a reading by hand. Bytes that are passed end where a page begins that may not be read, so that reading past them ends the
- * program. Prints a line for each call that isn't as it must be. The status is 1 if one wasn't.
- * With the words map IMAGE or check IMAGE it prints instead what qmeta prints by that command, and with lookups IMAGE what
- * clusters of the guest's disk read as. Then the status is 1 after a fault. Of a check it doesn't print flags, and a line
- * for each cluster. With the word settle it settles one refcount block and does no more, and with edit it edits a table. */
+/* Calls each function of zaqulle.h with input that no caller should pass, and checks the fault, and that results stay
+ * as they were. Compares with a reading by hand the mappings of 200,000 numbers in an L2 table, the extents of 400
+ * tables, refcounts of refcount blocks, and edits of 4,000 tables. An unreadable page follows the bytes that it passes,
+ * so that a read past them ends the program. Prints a line for each failed check. The status is 1 if one failed.
+ * With the words map IMAGE or check IMAGE it prints the output of that command of qmeta instead, and with lookups IMAGE
+ * the mappings of the first clusters of the guest's disk. Then the status is 1 after a fault. By check it prints no
+ * flags, and a line for each cluster. With the word settle it only settles one refcount block, and with edit it only
+ * edits a table. */
 #define _DEFAULT_SOURCE
 #include <fcntl.h>
 #include <stdio.h>
@@ -25,7 +26,7 @@ static void expect(const char *what, uint64_t number, uint64_t found, uint64_t e
     }
 }
 
-/* Whether all bytes of a result are still those that it was filled with. */
+/* Whether all bytes of a result still have the filler's value. */
 static int is_untouched(const void *result, size_t size) {
     for (size_t i = 0; i < size; i++) {
         if (((const unsigned char *)result)[i] != 0xa5) {
@@ -40,7 +41,7 @@ static int is_untouched(const void *result, size_t size) {
 
 enum { ROOM = 1 << 17 };
 
-/* Where that many bytes of a copy of these begin, after which nothing may be read. */
+/* A copy of these bytes, directly before an unreadable page. */
 static const uint8_t *guarded(const uint8_t *bytes, size_t length) {
     static uint8_t *room;
     if (room == NULL) {
@@ -121,8 +122,8 @@ static void check_lengths(void) {
     expect("zq_header_read of NULL", 0, zq_header_read(NULL, 0, &header), ZQ_WRONG_LENGTH);
 }
 
-/* Lengths that no object has. A table or block of such a length is refused before a byte of it is read, by zq_l2_check where
- * it has no whole entries. Of a header only the first cluster is read, whatever follows. */
+/* Lengths that no object has. The calls refuse a table or block of such a length before they read a byte, zq_l2_check
+ * only one without whole entries. Of a header they read only the first cluster, whatever follows. */
 static void check_longest(void) {
     static const size_t lengths[] = {(size_t)1 << 63, ((size_t)1 << 63) - 8, ((size_t)1 << 63) + 8, SIZE_MAX - 7, SIZE_MAX};
     static const zq_edit edit = {4, 0, 0, 0};
@@ -174,7 +175,7 @@ static void check_fields(void) {
     }
 }
 
-/* Each field of a header has a number of its own, and is found where the header file has it. */
+/* Each field of a header gets a number of its own, and must have it in the struct of the header file. */
 static void check_all_fields(void) {
     static const zq_header expected = {3, 16, 6, 11, UINT64_C(0x102030405060708), 0x10000, 0x20000, 12, 13, 4,
                                        UINT64_C(1) << 63, 15, 0x30000, 14, {65532, 4}, {112, 3}, {128, 2}};
@@ -200,7 +201,7 @@ static void check_all_fields(void) {
     expect("all fields of version", 3, (uint64_t)memcmp(&header, &expected, size), 0);
 }
 
-/* Fields that no header has, and the fault of the calls that look at them. */
+/* Fields that no header has, and the fault of the calls that read them. */
 static const struct {
     uint32_t cluster_bits;
     uint64_t incompatible_features;
@@ -242,7 +243,7 @@ static void check_made_up(void) {
     }
 }
 
-/* Numbers under clusters of 64 KiB, why they are no entries, and what they say of guest offset 0x20001. */
+/* Numbers with clusters of 64 KiB, the fault if they are no entries, and their mapping of guest offset 0x20001. */
 static const struct {
     uint64_t number;
     uint32_t l1_fault, l2_fault;
@@ -309,7 +310,7 @@ static void make_image(void) {
     put(image, 0x30000, 8, UINT64_C(1) << 63 | 0x40000);
 }
 
-/* Lookups in the image, which is damaged more and more. */
+/* Lookups in the image, with more and more damages. */
 static void check_lookups(void) {
     zq_mapping found, data = {ZQ_DATA, 1, 0x40000, 65536}, backing = {ZQ_BACKING, 0, 0x10000, 65536};
     make_image();
@@ -331,7 +332,7 @@ static void check_lookups(void) {
     EXPECT_UNTOUCHED("mapping of a large L1 table", 0, found);
 }
 
-/* Changes of the image, from where on how many extents are asked for, the fault, and the extents that come. */
+/* Changes of the image, the first guest offset and the room for extents, the fault, and the extents. */
 static const struct {
     size_t place;
     int size;
@@ -387,7 +388,7 @@ static void check_image_extents(void) {
     FILL(count);
     expect("zq_image_extents of NULL", 0, zq_image_extents(NULL, 0, 0, NULL, 0, &count), ZQ_NOT_QCOW2);
     expect("count of NULL", 0, count, 0);
-    /* A table in the second half of the disk is damaged: what comes before it is told. */
+    /* A table in the second half of the disk is damaged: the call returns the extents before it. */
     put(image, 24, 8, UINT64_C(1) << 30);
     put(image, 36, 4, 2);
     put(image, 0x10008, 8, 0x20000);
@@ -398,8 +399,8 @@ static void check_image_extents(void) {
     expect("extent before a fault", 0, (uint64_t)memcmp(found, &data, sizeof data), 0);
 }
 
-/* Changes of the image, how many findings there is room for, the fault, the findings and the totals. The image has no
- * refcount block, so that its five clusters are missing, and two flags are false. */
+/* Changes of the image, the room for findings, the fault, the findings and the totals. The image has no refcount block,
+ * so that its five clusters are missing, and two flags are false. */
 static const struct {
     size_t place;
     int size;
@@ -454,7 +455,7 @@ static void check_checks(void) {
     EXPECT_UNTOUCHED("totals of NULL", 0, totals);
 }
 
-/* What a number in an L2 table says of guest cluster 0, read by hand. */
+/* The mapping of guest cluster 0 by a number in an L2 table, read by hand. */
 static uint32_t read_by_hand(uint64_t number, const zq_header *header, zq_mapping *mapping) {
     uint32_t bits = header->cluster_bits;
     uint64_t size = UINT64_C(1) << bits, offset = number & UINT64_C(0xfffffffffffe00), copied = number >> 63;
@@ -476,7 +477,7 @@ static uint64_t next_random(uint64_t *state) {
     return *state ^ *state >> 29;
 }
 
-/* Numbers of which most bits are drawn, and some are left out so that many are entries. */
+/* Numbers of mostly random bits, some of them cleared so that many numbers are entries. */
 static void check_random_numbers(void) {
     uint64_t state = 1;
     for (uint64_t i = 0; i < 200000; i++) {
@@ -497,13 +498,13 @@ static void check_random_numbers(void) {
     }
 }
 
-/* Where a bit of counter i of a block is: in a byte the first counter is the lowest, and a wider one begins with its
- * highest byte. */
+/* The place of a bit of refcount i of a block: in a byte the first refcount is the lowest, and a wider one begins with
+ * its highest byte. */
 static size_t place_of_bit(uint32_t order, size_t i, size_t bit) {
     return order < 3 ? (i << order) + bit : 8 * (((i + 1) << (order - 3)) - 1 - bit / 8) + bit % 8;
 }
 
-/* Counter i of a block, read bit by bit. */
+/* Refcount i of a block, read bit by bit. */
 static uint64_t counter_by_hand(const uint8_t *block, uint32_t order, size_t i) {
     uint64_t counter = 0;
     for (size_t bit = 0; bit < (size_t)1 << order; bit++) {
@@ -513,7 +514,7 @@ static uint64_t counter_by_hand(const uint8_t *block, uint32_t order, size_t i) 
     return counter;
 }
 
-/* Puts a number in the place of counter i of a block, bit by bit. */
+/* Writes a number to refcount i of a block, bit by bit. */
 static void put_counter_by_hand(uint8_t *block, uint32_t order, size_t i, uint64_t counter) {
     for (size_t bit = 0; bit < (size_t)1 << order; bit++) {
         size_t place = place_of_bit(order, i, bit);
@@ -521,7 +522,7 @@ static void put_counter_by_hand(uint8_t *block, uint32_t order, size_t i, uint64
     }
 }
 
-/* Blocks of drawn bytes: those with clusters of 512 bytes, 64 KiB and 2 MiB, and counters of each width. */
+/* Blocks of random bytes, with clusters of 512 bytes, 64 KiB and 2 MiB, and refcounts of each width. */
 static void check_refcounts(void) {
     static const size_t sizes[] = {512, 1 << 16, 1 << 21};
     uint8_t *block = (uint8_t *)malloc(1 << 21);
@@ -540,7 +541,7 @@ static void check_refcounts(void) {
     free(block);
 }
 
-/* How many bytes of a block are passed, its refcount order, the counters that are asked for, and the fault. */
+/* The bytes of a block that are passed, its refcount order, the refcounts that are asked for, and the fault. */
 static const struct {
     size_t length;
     uint32_t order;
@@ -575,7 +576,7 @@ typedef struct {
     uint64_t gained[5];
 } drawn_edit;
 
-/* Counts an edit in a block by hand: all gains, then all losses. Whether no counter left its range. */
+/* Counts an edit in a block by hand: all gains, then all losses. Returns whether no refcount left its range. */
 static int settle_by_hand(uint8_t *block, size_t size, uint32_t order, uint64_t index, const drawn_edit *edit) {
     uint64_t entries = (size * 8) >> order, greatest = UINT64_MAX >> (64 - (1 << order));
     for (size_t i = 0; i < 5; i++) {
@@ -603,7 +604,7 @@ static int settle_by_hand(uint8_t *block, size_t size, uint32_t order, uint64_t 
     return 1;
 }
 
-/* Compares what an edit near a border of a block leaves of it with the same by hand. Whether it was made. */
+/* Compares an edit settled near a border of a block with the same by hand. Returns whether the call made it. */
 static int check_drawn_edit(const uint8_t *before, size_t size, uint32_t order, uint64_t *state) {
     static uint8_t found[1 << 21], expected[1 << 21];
     uint64_t entries = (size * 8) >> order, index = 1 + (next_random(state) >> 40) % 9;
@@ -626,7 +627,7 @@ static int check_drawn_edit(const uint8_t *before, size_t size, uint32_t order, 
     return is_made;
 }
 
-/* Blocks whose bytes are drawn, or 0, or 0xff. */
+/* Blocks whose bytes are random, or 0, or 0xff. */
 static void check_settled_refcounts(void) {
     static const size_t sizes[] = {512, 1 << 16, 1 << 21};
     static uint8_t block[1 << 21];
@@ -646,7 +647,7 @@ static void check_settled_refcounts(void) {
     expect("edits of both kinds", 0, made > 100 && refused > 100, 1);
 }
 
-/* How many bytes of a block are passed, its refcount order, its index, a range that is freed, and the fault. */
+/* The bytes of a block that are passed, its refcount order, its index, a freed range, and the fault. */
 static const struct {
     size_t length;
     uint32_t order;
@@ -662,7 +663,7 @@ static const struct {
     {1 << 16, 6, UINT64_MAX / 8192, {UINT64_MAX, 1}, ZQ_COUNTER_RANGE},
 };
 
-/* Counters that are 0 stay so, whatever the fault. */
+/* Refcounts of 0 stay 0, whatever the fault. */
 static void check_refused_settles(void) {
     static const uint8_t zeros[1 << 16] = {0};
     for (size_t i = 0; i < sizeof settled / sizeof *settled; i++) {
@@ -676,7 +677,7 @@ static void check_refused_settles(void) {
     expect("zq_refcounts_settle of NULL", 0, zq_refcounts_settle(NULL, 0, 4, 0, NULL, 0, NULL, 0), ZQ_WRONG_LENGTH);
 }
 
-/* Settles one block. After a fault prints its number, and that bytes have changed if they have. */
+/* Settles one block. After a fault prints its number, and whether bytes have changed. */
 static int settle_once(void) {
     static const zq_clusters freed = {3, 1};
     static const uint64_t gained = 4;
@@ -690,8 +691,8 @@ static int settle_once(void) {
     return fault != ZQ_OK;
 }
 
-/* Makes one edit of a table by hand. Says which clusters lost a reference, none where the count is 0, and whether one gained
- * one. */
+/* Makes one edit of a table by hand. Gives the clusters that lost a reference, none if the count is 0, and returns
+ * whether one gained a reference. */
 static int edit_by_hand(uint8_t *table, const zq_header *header, const zq_edit *edit, zq_clusters *lost) {
     uint32_t bits = header->cluster_bits, offset_bits = 70 - bits;
     uint64_t entry = counter_by_hand(table, 6, edit->index), host = edit->host_offset >> bits;
@@ -729,7 +730,7 @@ static uint64_t drawn_entry(uint64_t *state, uint32_t bits) {
     }
 }
 
-/* Compares edits of a drawn table, and what they did to references, with the same by hand. */
+/* Compares edits of a random table, and the changes of references, with the same by hand. */
 static void check_drawn_table(uint64_t row, uint64_t *state) {
     static uint8_t bytes[1 << 16], expected[1 << 16];
     zq_header header = {3, 9, 4, 0, 0, 0, 0, 0, 0, 0, 0, 0, 0, 0, {0, 0}, {0, 0}, {0, 0}};
@@ -771,8 +772,8 @@ static void check_drawn_tables(void) {
     }
 }
 
-/* By a header: how many bytes of a table of which one number is not 0, an edit, and the fault. Then what is told of a bad
- * entry or edit, and how many elements are needed. UINT64_MAX is what nothing was written to. */
+/* With a header: the bytes of a table of which one number is not 0, an edit, and the fault. Then the index of the bad
+ * entry or edit, and the number of needed elements. UINT64_MAX stands for a result that the call didn't write. */
 static const struct {
     uint32_t version, bits;
     size_t length, place;
@@ -826,7 +827,7 @@ static void check_refused_edits(void) {
     }
 }
 
-/* Edits one table. After a fault prints its number, and that something has changed if it has. */
+/* Edits one table. After a fault prints its number, and whether anything has changed. */
 static int edit_once(void) {
     static const zq_edit edits[] = {{ZQ_EDIT_DISCARD, 0, 0, 0}, {ZQ_EDIT_MAP, 0, 1, 1536}};
     zq_header header = {3, 9, 4, 0, 0, 0, 0, 0, 0, 0, 0, 0, 0, 0, {0, 0}, {0, 0}, {0, 0}};
@@ -859,7 +860,7 @@ static void print_extent(const zq_extent *extent) {
     printf("\n");
 }
 
-/* Prints the extents of a whole disk, a few by each call, as qmeta map does. */
+/* Prints the extents of a whole disk, a few by each call, in the form of qmeta map. */
 static uint32_t print_map(const uint8_t *bytes, size_t length) {
     zq_extent extents[TOGETHER];
     uint64_t from = 0;
@@ -875,7 +876,7 @@ static uint32_t print_map(const uint8_t *bytes, size_t length) {
     return fault;
 }
 
-/* Prints what the first clusters of a disk read as. */
+/* Prints the mappings of the first clusters of a disk. */
 static uint32_t print_lookups(const uint8_t *bytes, size_t length) {
     uint32_t fault = ZQ_OK;
     for (uint64_t offset = 0; fault == ZQ_OK && offset < 1 << 18; offset += 1 << 16) {
@@ -894,7 +895,7 @@ static void print_finding(const char *kind, const zq_finding *finding) {
     printf("%s %llu 1 %llu %llu\n", kind, cluster, counter, uses);
 }
 
-/* Prints the findings of an image and how many there are, as qmeta check does, but for the lines of flags. */
+/* Prints the findings of an image and their totals, in the form of qmeta check, except the lines of flags. */
 static uint32_t print_check(const uint8_t *bytes, size_t length) {
     static zq_finding findings[4096];
     zq_check_totals totals;
@@ -921,7 +922,7 @@ static uint32_t print_check(const uint8_t *bytes, size_t length) {
     return ZQ_OK;
 }
 
-/* Prints what a function does of the bytes of a file, and its fault. Returns the status of the program. */
+/* Runs a function that prints the bytes of a file in some form, and prints its fault. Returns the program's status. */
 static int print_file(const char *name, uint32_t (*print)(const uint8_t *, size_t)) {
     struct stat status;
     int file = open(name, O_RDONLY);
@@ -958,7 +959,7 @@ static size_t join_by_hand(const uint64_t *numbers, size_t entries, const zq_hea
     return count;
 }
 
-/* A number of an L2 table that often reads on from the one before. */
+/* A number of an L2 table that often continues the one before. */
 static uint64_t next_entry(uint64_t before, uint32_t bits, uint64_t *state) {
     uint64_t drawn = next_random(state) >> 32, cluster = (next_random(state) >> 40) << bits, flag = drawn >> 8 << 63;
     switch (drawn % 32) {
@@ -1025,7 +1026,7 @@ static void check_extents(void) {
     }
 }
 
-/* What no part of a table is: a length, an offset, an entry's number, and the fault. Clusters have 64 KiB. */
+/* Invalid parts of a table: the length, the offset, an entry's number, and the fault. Clusters have 64 KiB. */
 static const struct {
     size_t length;
     uint64_t first, number;

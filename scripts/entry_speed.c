@@ -1,6 +1,6 @@
-/* Reads a million entries of an L2 table in one of three ways, for check-c-library, which counts instructions: by
- * zq_l2_entry, by a plain test, shift and mask, or by a function that looks at nothing. Usage: entry_speed
- * library|plain|nothing. Prints a sum of what was read, which is the same by the first two. */
+/* Reads a million entries of an L2 table in one of three ways, for check-c-library, which counts the instructions: by
+ * zq_l2_entry, by a plain test, shift and mask, or by a function that decodes nothing. Usage: entry_speed
+ * library|plain|nothing. Prints a sum of the mappings, which is the same by the first two. */
 #include <inttypes.h>
 #include <stdio.h>
 #include <string.h>
@@ -17,7 +17,7 @@ static uint32_t no_entry(uint64_t entry, const zq_header *header, uint64_t guest
     return ZQ_OK;
 }
 
-/* What an entry says, as a program reads it by hand. */
+/* The mapping of an entry, as a program decodes it by hand. */
 static uint32_t plain_entry(uint64_t entry, const zq_header *header, uint64_t guest_offset, zq_mapping *mapping) {
     uint64_t size = UINT64_C(1) << header->cluster_bits, offset = entry & UINT64_C(0xfffffffffffe00);
     if (entry >> 62 & 1) {

@@ -1,11 +1,11 @@
 #!/usr/bin/env python3
-"""Lets `rt lib` build on the libraries that `rt ci` has just proved in this folder, so that it doesn't prove them again.
+"""Lets `rt lib` reuse the libraries that `rt ci` has just proved in this folder, so that it doesn't prove them again.
 
-`rt ci` leaves each library in `out/rlib` of its crate, without the note by which other commands know it. This writes that
-note, by the toolchain's own code, where MARK was written between the last change of all that a library is made from and the
-library. Where it wasn't, or the toolchain has other code, nothing is written, and `rt lib` proves all anew.
+`rt ci` leaves each library in `out/rlib` of its crate, without the stamp by which other commands recognize it. The
+script writes that stamp, by the toolchain's own code, if MARK is newer than all sources of the library and older than
+the library. If it isn't, or the toolchain has other code, it writes nothing more, and `rt lib` proves the rest anew.
 
-Usage: scripts/keep_proofs.py CRATE MARK. MARK is a file that was made just before `rt ci` began. It prints nothing.
+Usage: scripts/keep_proofs.py CRATE MARK. MARK is a file that was made just before `rt ci` began. Prints nothing.
 """
 
 import os
@@ -21,7 +21,7 @@ def written(path):
 
 
 def newest(folder):
-    """When the newest file of a crate was written."""
+    """The time of the last write to a source of a crate."""
     parts = ("src", "specs", "proofs")
     return max((written(file) for part in parts for file in Path(folder, part).rglob("*") if file.is_file()), default=0.0)
 

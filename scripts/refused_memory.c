@@ -1,7 +1,7 @@
-/* Preloaded to a program, it refuses one request for memory: that whose number REFUSED_REQUEST says, counted from 1. Without
- * it, or with 0, it refuses none. At the end it writes how many requests there were, the bytes of the greatest, and how many
- * blocks weren't given back, into the file that REQUESTS_TOLD names. What the loader does before the program begins doesn't
- * count. Needs glibc. */
+/* Preloaded to a program, it refuses one request for memory: the one with the number REFUSED_REQUEST, counted from 1.
+ * Without that variable, or with 0, it refuses none. At the end it writes the number of requests, the bytes of the
+ * greatest, and the number of blocks that the program didn't give back, into the file that REQUESTS_TOLD names.
+ * Requests of the loader before the program begins don't count. Needs glibc. */
 #include <stdio.h>
 #include <stdlib.h>
 

@@ -1,5 +1,5 @@
-"""Images for comparisons of `qmeta` with QEMU's tools and with a second reading of the format.
+"""A second implementation of the format, and images for comparisons of `qmeta` with it and with QEMU's tools.
 
-The commands in scripts/ are built on it. `image` is its one reader of qcow2 and `draft` its one writer. Nothing here is
-shared with the program under test.
+The Python scripts in scripts/ are built on it. `image` is its one reader of qcow2 and `draft` its one writer. It shares
+no code with the program under test.
 """

@@ -1,4 +1,4 @@
-"""Lists of edits that `qmeta apply` makes of an image, one after the other, compared with what must become of them."""
+"""Lists of edits that `qmeta apply` makes in an image, one after the other, compared with predictions."""
 
 import os
 import random
@@ -11,7 +11,7 @@ from .kinds import Kind, Maker, snapshot_name
 from .tools import qemu_check_counts, run
 from .trials import Trial
 
-# How many lists are made of each image.
+# The number of lists for each image.
 LISTS = 11
 
 # The names of edits.
@@ -19,34 +19,34 @@ NAMES = ["discard", "zero", "keep", "map"]
 
 
 def kind_of(order, cluster_bits, chance):
-    """What the image of these refcounts and clusters is like. Refcounts of 1 bit can't count what a snapshot shares."""
+    """Draws the kind of an image. Refcounts of 1 bit can't count clusters that a snapshot shares."""
     version = 2 if order == 4 and cluster_bits % 2 else 3
     snapshots = chance.randrange(1, 3) if order > 0 else 0
     is_backed = chance.random() < 1 / 3
-    # refcounts below 2^16 can't count all the compressed data in a cluster that a snapshot has too
+    # refcounts of up to 8 bits can't count all the compressed data in a cluster that a snapshot shares
     is_converted = not is_backed and (order > 3 or snapshots == 0) and chance.random() < 1 / 3
     autoclear = "unknown" if version == 3 and chance.random() < 1 / 3 else ""
     return Kind(cluster_bits, order, version, snapshots, is_backed, is_converted, autoclear, chance.choice([0.7, 1, 1]))
 
 
-# What files hold
+# The content of files
 
 
 def digest(stored, unit):
-    """What stands for the bytes of a unit, which may be cut off where zeros follow. Nothing for zeros alone."""
+    """The digest of a unit's bytes, of which zeros at the end may be missing, or None if all are zeros."""
     if stored == bytes(len(stored)):
         return None
     return blake2b(stored.ljust(unit, b"\0"), digest_size=16).hexdigest()
 
 
 def data_of(file):
-    """The parts of a file that aren't holes: where each begins and ends."""
+    """The start and the end of each part of a file that isn't a hole."""
     place, end = 0, file.seek(0, 2)
     while place < end:
         try:
             place = os.lseek(file.fileno(), place, os.SEEK_DATA)
         except OSError:
-            # only a hole is left
+            # the rest is a hole
             return
         hole = os.lseek(file.fileno(), place, os.SEEK_HOLE)
         yield place, hole
@@ -54,7 +54,7 @@ def data_of(file):
 
 
 def contents(path, unit):
-    """The units of a file that aren't all zeros: what stands for each, by its number."""
+    """The digests of the units of a file that aren't all zeros, by their numbers."""
     found = {}
     with open(path, "rb") as file:
         for start, end in data_of(file):
@@ -75,7 +75,7 @@ def without_zeros(units):
 
 
 class ListTrial(Trial):
-    """An image, and the lists that are made of it one after the other."""
+    """An image, and the lists that `qmeta` makes in it one after the other."""
 
     def __init__(self, order, cluster_bits, qmeta, folder):
         self.chance = random.Random(f"apply {order} {cluster_bits}")
@@ -90,15 +90,15 @@ class ListTrial(Trial):
         self.look()
         self.leak_one()
         for number in range(LISTS):
-            # after a problem nothing is as the next list would have it
+            # after a problem the next list's prediction doesn't hold
             if not self.problems:
                 self.try_list(f"list {number}")
         self.try_small_refcount()
 
-    # What the image holds
+    # The content of the image
 
     def look(self):
-        """Looks at all that the lists are compared on."""
+        """Reads the state of the image that the lists are compared with."""
         if self.kind.is_backed:
             self.backing = contents(self.path.with_suffix(".backing"), self.cluster_size)
         self.read()
@@ -111,7 +111,7 @@ class ListTrial(Trial):
         self.image, self.stored = Image(self.path).read(), contents(self.path, self.cluster_size)
 
     def read_by_qemu(self, *words):
-        """What the guest's disk, or a snapshot, reads as, by guest clusters."""
+        """The digests of the guest clusters of the disk, or of a snapshot, by `qemu-img convert`."""
         raw = self.path.with_suffix(".raw")
         run(["qemu-img", "convert", "-f", "qcow2", "-O", "raw", *words, self.path.name, raw.name], self.path.parent)
         read = contents(raw, self.cluster_size)
@@ -119,17 +119,17 @@ class ListTrial(Trial):
         return read
 
     def read_snapshots(self):
-        """What each snapshot reads as."""
+        """The digests of each snapshot's guest clusters."""
         return [self.read_by_qemu("-l", snapshot_name(number)) for number in range(self.kind.snapshots)]
 
     def checked(self, what):
-        """The leaks that `qemu-img check` finds. Anything worse is a problem."""
+        """The number of leaks that `qemu-img check` finds. Anything worse is a problem."""
         counts = qemu_check_counts(self.path)
         self.same(f"{what}: corruptions, errors", (counts["corruptions"], counts["check-errors"]), (0, 0))
         return counts["leaks"]
 
     def leak_one(self):
-        """Lets some images leak a cluster. That clears autoclear features."""
+        """Makes some images leak a cluster, except those with autoclear features, which `qmeta count` clears."""
         if self.kind.autoclear == "" and self.chance.random() < 1 / 4:
             self.count(self.path, "inc", max(self.image.refcounts) + 1)
             self.read()
@@ -137,7 +137,7 @@ class ListTrial(Trial):
             self.same("leaks", self.leaks, 1)
 
     def count(self, path, step, cluster):
-        """Makes a step of the refcount of a cluster, if it has one."""
+        """Makes a step of the refcount of a cluster, if a block counts it."""
         place = self.image.refcount_place(cluster)
         if place is not None:
             block, index = place
@@ -146,7 +146,7 @@ class ListTrial(Trial):
     # Lists
 
     def try_list(self, what):
-        """Draws a list, plans it and makes it, and compares what is left."""
+        """Draws a list, plans it and makes it, and compares the results."""
         is_sound = self.chance.random() < 3 / 5
         names = self.chance.choices(NAMES, k=self.chance.randrange(1, 7))
         edits = Drawer(self.image, self.chance).draw(names, is_sound)
@@ -160,7 +160,7 @@ class ListTrial(Trial):
             self.compare_made(what, expected)
 
     def compare_runs(self, what, path, words, expected, before):
-        """Plans a list and makes it, and compares what is printed, and what the file holds where it may not change."""
+        """Plans a list and makes it, and compares the output, and the file's bytes if they must stay."""
         outcome = (0, expected.printed(), "") if not expected.fault else (1, "", f"qmeta: fault {expected.fault}\n")
         for form in ("plan", "run"):
             told = ["plan"] if form == "plan" else []
@@ -170,7 +170,7 @@ class ListTrial(Trial):
                 self.same_items(f"{what}: {form}: bytes of clusters", contents(path, self.cluster_size), before)
 
     def compare_made(self, what, expected):
-        """Compares what a list left, and keeps it for the next one."""
+        """Compares the image after a list, and keeps its state for the next one."""
         old, old_stored, disk = self.image, self.stored, self.disk_after(expected)
         self.read()
         self.same_items(f"{what}: entries of guest clusters", dict(self.image.guest_entries()), expected.entries)
@@ -190,7 +190,7 @@ class ListTrial(Trial):
             self.same_items(f"{what}: bytes of {snapshot_name(number)}", snapshot, self.snapshots[number])
 
     def disk_after(self, expected):
-        """What the disk must read as after a list, by what it read as and the bytes of the file."""
+        """The digests that the disk must have after a list, from those before it and the bytes of the file."""
         disk = dict(self.disk)
         for edit in expected.edits:
             clusters = expected.range_of(edit)
@@ -202,12 +202,12 @@ class ListTrial(Trial):
         return without_zeros(disk)
 
     def host_digest(self, host_cluster, cluster):
-        """What stands for the bytes of a host cluster, as a guest cluster reads them, within which the disk may end."""
+        """The digest of a host cluster, as a guest cluster reads it. The disk may end within that."""
         length = min(self.cluster_size, self.image.header.size - cluster * self.cluster_size)
         return digest(self.image.bytes_at(host_cluster * self.cluster_size, length), self.cluster_size)
 
     def try_small_refcount(self):
-        """Discards, in a copy, a cluster whose refcount was made 0."""
+        """Discards, in a copy, a cluster whose refcount was lowered to 0."""
         owned = owned_tables(self.image)
         for cluster, entry in self.image.guest_entries():
             is_owned = cluster // self.kind.table_entries in owned
@@ -216,7 +216,7 @@ class ListTrial(Trial):
                 return
 
     def discard_uncounted(self, cluster, host_cluster):
-        """Discards a guest cluster in a copy in which its host cluster has the refcount 0."""
+        """Lowers the refcount of a host cluster to 0 in a copy, and discards the guest cluster there."""
         copy = self.path.with_suffix(".copy")
         run(["cp", self.path.name, copy.name], self.path.parent)
         for _ in range(self.image.refcount(host_cluster)):

@@ -1,7 +1,7 @@
-"""What `qmeta check` must print of an image, and what its repair must leave.
+"""Predicts the output of `qmeta check` on an image, and the bytes after its repair.
 
-It is a second reading of the definitions in docs/FORMAT.md, for images of features that the program knows, and shares
-nothing with it.
+It is a second implementation of the definitions in docs/FORMAT.md, for images of features that the program knows, and
+shares no code with it.
 """
 
 import json
@@ -14,13 +14,13 @@ from .draft import put_entry, put_refcount
 from .faults import L1_SHORT, OVERLAP, REFCOUNT_RANGE, TABLE_PLACE, UNCOUNTED
 from .image import COMPRESSED, COPIED, ENTRY_SIZE, GREATEST_END, LUKS, SECTOR, ZERO, Entry, Image, Refused
 
-# The kinds of lines, in the order of the last one, and those that may destroy data.
+# The kinds of lines, in the order of the last line, and those that may destroy data.
 KINDS = ("leaked", "missing", "shared", "false", "late")
 HARMFUL = {"missing", "shared", "false"}
 
 
 def examine(image, to_repair):
-    """Reads all parts of an image in the order of a check. Raises what this refuses before any line."""
+    """Reads all parts of an image in the order of a check, and raises the fault in which that ends before any line."""
     header = image.header
     if header.nb_snapshots or header.crypt_method >= LUKS:
         raise Refused(UNCOUNTED)
@@ -44,13 +44,16 @@ def table_spans(image):
 
 
 def is_past_end(image, offset, length):
-    """Whether bytes have a cluster past the file's end. The file's last one may be cut."""
+    """Whether bytes have a cluster past the file's end. The file may end within its last cluster."""
     clusters_of = image.header.clusters_of
     return length > 0 and clusters_of(offset + length) > clusters_of(image.length)
 
 
 class Flag(NamedTuple):
-    """The copied flag of an entry in a table at a host offset, its place in words, and whether a refcount is for it."""
+    """A copied flag: its entry, its table's host offset, its place in words, and whether its cluster has a refcount.
+
+    A cluster of an external data file has none.
+    """
 
     entry: Entry
     table: int
@@ -59,7 +62,7 @@ class Flag(NamedTuple):
 
 
 class Check:
-    """What is wrong with an image, and what the program must print of it."""
+    """The findings of a check of an image, and the output that the program must print."""
 
     def __init__(self, path, to_repair=False):
         self.image = Image(path)
@@ -75,14 +78,14 @@ class Check:
             self.add_flag_line(flag)
 
     def refer(self, counts, offset, length):
-        """Counts a reference to each cluster that has one of some bytes."""
+        """Counts a reference to each cluster that these bytes touch."""
         if length:
             self.spans.append((offset, length))
             size = self.header.cluster_size
             counts.update(range(offset // size, (offset + length - 1) // size + 1))
 
     def count_references(self):
-        """Counts what refers to clusters: tables and blocks, L1 entries, and L2 entries."""
+        """Counts the references to clusters: by the header, tables and blocks, by L1 entries, and by L2 entries."""
         self.refer(self.fixed, 0, 1)
         self.refer(self.fixed, self.header.l1_table_offset, ENTRY_SIZE * self.header.l1_size)
         table_length = self.header.refcount_table_clusters * self.header.cluster_size
@@ -95,16 +98,16 @@ class Check:
                 for guest in self.image.l2_tables[entry.offset]:
                     self.refer(self.guest, guest.offset, guest.length)
 
-    # What a check prints
+    # The output of a check
 
     def finding(self, cluster):
-        """The refcount of a cluster, its number of references, and whether these exclude each other."""
+        """The refcount of a cluster, the number of its references, and whether it is shared."""
         references, l2 = self.references[cluster], self.l2[cluster]
         shared = self.fixed[cluster] > 0 and references > 1 or l2 > 0 and l2 != references
         return self.image.refcount(cluster), references, shared
 
     def add_cluster_lines(self):
-        """Adds the lines of clusters, of those in a row with one finding together."""
+        """Adds the lines of clusters, one for clusters in a row with the same finding."""
         known = self.references.keys() | self.image.refcounts.keys()
         findings = {cluster: self.finding(cluster) for cluster in sorted(known)}
         wrong = [c for c, (refcount, references, shared) in findings.items() if refcount != references or shared]
@@ -117,7 +120,7 @@ class Check:
                 self.totals[kind] += len(clusters)
 
     def flags(self):
-        """The copied flags of all entries that refer to a cluster: L1 entries, each followed by its table's."""
+        """The copied flags of all entries that refer to a cluster: those of L1 entries, each before its L2 table's."""
         for l1_entry in self.image.l1_table:
             if l1_entry.length:
                 yield Flag(l1_entry, self.header.l1_table_offset, f"l1 {l1_entry.index}", True)
@@ -142,7 +145,7 @@ class Check:
             self.totals[kind] += 1
 
     def printed(self):
-        """What the program prints, and then its status where that isn't 0."""
+        """The program's output, and then its status if that isn't 0."""
         header = self.header
         if not self.totals and not header.is_l1_short:
             return "consistent\n"
@@ -151,13 +154,13 @@ class Check:
         return f"{self.text}{short}{last}\n{self.status()}"
 
     def status(self):
-        """The line of its status, where that isn't 0."""
+        """The line of the status, if that isn't 0."""
         if self.header.is_l1_short or HARMFUL & self.totals.keys():
             return "status 4\n"
         return "status 3\n" if self.totals else ""
 
     def object(self, name):
-        """What it prints of an image whose file has this name with the word json, and then its status."""
+        """The output with the word `json`, for a file of this name, and then the status if that isn't 0."""
         header, totals = self.header, self.totals
         known = self.references.keys() | self.image.refcounts.keys()
         last = max(cluster for cluster in known if cluster < GREATEST_END // header.cluster_size)
@@ -181,7 +184,7 @@ class Check:
         return json_text(told) + self.status()
 
     def entry_counts(self):
-        """How many entries are allocated, compressed and fragmented, in all tables as often as they are named."""
+        """The numbers of allocated, compressed and fragmented entries. A table counts once for each reference."""
         counts, size = Counter(), self.header.cluster_size
         for l1_entry in self.image.l1_table:
             if l1_entry.length:
@@ -193,7 +196,7 @@ class Check:
         return counts
 
     def differences(self):
-        """Why `qemu-img check` counts otherwise: rows of the table in docs/DIFFERENCES.md, by what is in the image."""
+        """The rows of docs/DIFFERENCES.md by which `qemu-img check` counts otherwise in this image."""
         image, header, references = self.image, self.header, self.references
         size, length = header.cluster_size, -(-image.length // SECTOR) * SECTOR
         end = max(header.clusters_of(length), max(references) + 1)
@@ -218,10 +221,10 @@ class Check:
             else:
                 yield from range(int(words[1]), int(words[1]) + int(words[2]))
 
-    # What a repair makes of it
+    # A repair
 
     def refusal(self):
-        """The fault that a repair ends in, if it does: that of the first cluster that it can't make right."""
+        """The fault of the first cluster that a repair can't make right, if there is one."""
         for cluster in sorted(self.references):
             _, references, shared = self.finding(cluster)
             if shared:
@@ -231,7 +234,7 @@ class Check:
         return None
 
     def repaired(self, before):
-        """The bytes of the image after a repair, by those before it. They reach to its last table or block."""
+        """The bytes of the image after a repair, from those before it, at least up to the last L2 table or block."""
         image, header = self.image, self.header
         ends = [offset + header.cluster_size for offset in [*image.l2_tables, *image.refcount_blocks.values()]]
         stored = bytearray(before).ljust(max([*ends, 0]), b"\0")
@@ -244,7 +247,10 @@ class Check:
         return stored
 
     def put_flag(self, stored, flag):
-        """Makes a flag right: set where its cluster has one reference, or lies in an external data file."""
+        """Makes a flag right: set if its cluster has one reference, or lies in an external data file.
+
+        The flag of a cluster that no block counts stays as it is.
+        """
         entry, cluster = flag.entry, flag.entry.offset // self.header.cluster_size
         if not flag.is_counted or self.image.block_of(cluster) is not None:
             is_set = not flag.is_counted or self.references[cluster] == 1
@@ -252,13 +258,13 @@ class Check:
 
 
 def json_text(members):
-    """An object as QEMU prints it: characters other than printable ASCII are escaped, in capital letters."""
+    """An object in QEMU's form, in which characters other than printable ASCII are escaped in capital letters."""
     text = json.dumps(members, indent=4)
     return re.sub(r"\\u([0-9a-f]{4})", lambda found: "\\u" + found[1].upper(), text).replace("\x7f", "\\u007F") + "\n"
 
 
 class Printed(NamedTuple):
-    """What `qmeta check` must print of an image, for people and in JSON, and why `qemu-img check` counts otherwise."""
+    """The predicted output of `qmeta check`, for people and in JSON, and why `qemu-img check` counts otherwise."""
 
     text: str
     json: str
@@ -266,7 +272,7 @@ class Printed(NamedTuple):
 
 
 def printed_by_check(path):
-    """What `qmeta check` must print of an image, which it is given by its name alone."""
+    """Predicts the output of `qmeta check` on an image, for its file's name without a folder."""
     try:
         check = Check(path)
     except Refused as refused:
@@ -276,7 +282,7 @@ def printed_by_check(path):
 
 
 class Repair(NamedTuple):
-    """What a repair must make of an image: the fault that it ends in, or the bytes that it leaves, from a place on."""
+    """The predicted result of a repair: its fault, if any, and the bytes afterwards, which count from `first` on."""
 
     fault: Optional[int]
     bytes: bytes
@@ -284,9 +290,9 @@ class Repair(NamedTuple):
 
 
 def repair_of(path, before):
-    """What `qmeta check IMAGE repair` must make of an image, which has these bytes.
+    """Predicts the result of `qmeta check IMAGE repair` for an image with these bytes.
 
-    The first cluster isn't looked at where the header has autoclear features, since it is written anew.
+    If the header has autoclear features, the first cluster doesn't count, since the repair writes the header anew.
     """
     try:
         check = Check(path, to_repair=True)
@@ -299,6 +305,6 @@ def repair_of(path, before):
 
 
 def uncounted_is_left(path):
-    """Whether all that is wrong with an image is of clusters that no block counts."""
+    """Whether all findings of a check are about clusters that no block counts."""
     check = Check(path)
     return all(check.image.block_of(cluster) is None for cluster in check.clusters_of_lines())

@@ -1,4 +1,4 @@
-"""What `qmeta` says of an image and does to it, compared with QEMU's tools and with a second reading of the format."""
+"""Comparisons of `qmeta`'s output and changes with QEMU's tools and with a second implementation of the format."""
 
 import json
 import re
@@ -15,13 +15,13 @@ from .trials import Problems
 # The lines of members that only `qmeta check` prints.
 OWN_MEMBERS = re.compile(r'    "(?:shared|false-flags|late-flags)": \d+,\n')
 
-# The last line of `qmeta check`, where it found something.
+# The last line of `qmeta check` with findings.
 TOTALS = re.compile(r"^leaked (\d+) missing (\d+) shared \d+ false (\d+) late (\d+)$", re.MULTILINE)
 
-# The members of its object in JSON that count entries of L2 tables.
+# The members of its JSON object that count entries of L2 tables.
 ENTRY_COUNTS = ("allocated-clusters", "compressed-clusters", "fragmented-clusters")
 
-# Which members `qemu-img check` counts otherwise in JSON, by what is in the image.
+# The members that `qemu-img check` counts otherwise in JSON, by the row of docs/DIFFERENCES.md that the image meets.
 COUNTED_OTHERWISE = {
     "past the end": {"image-end-offset", "corruptions", "leaks"},
     "counters past the end": {"image-end-offset", "leaks"},
@@ -34,12 +34,12 @@ COUNTED_OTHERWISE = {
 
 
 def length_and_name(name):
-    """How `qmeta info` prints a name that may not be there."""
+    """A name in the form of `qmeta info`, or `none`."""
     return "none" if name is None else f"{len(name.encode())} {name}"
 
 
 def goes_on(before, extent):
-    """Whether an extent is the one before it, further on."""
+    """Whether an extent continues the one before it."""
     ends = {**before, "start": before["start"] + before["length"], "length": extent["length"]}
     if "offset" in ends:
         ends["offset"] += before["length"]
@@ -47,20 +47,20 @@ def goes_on(before, extent):
 
 
 def counted(printed):
-    """What `qemu-img check` must count, by the last line of `qmeta check`. Shared tables are no corruptions there."""
+    """Predicts the numbers of `qemu-img check` from the last line of `qmeta check`, without shared clusters."""
     last = TOTALS.search(printed)
     leaks, *corruptions = map(int, last.groups()) if last else [0]
     return {"leaks": leaks, "corruptions": sum(corruptions), "check-errors": 0}
 
 
 def how_it_ended(printed):
-    """How a repair ended: with a fault, with all right, or with something that is left."""
+    """The result of a repair: a fault, a consistent image, or one with findings left."""
     fault = re.search(r"fault \d+", printed)
     return fault[0] if fault else "consistent" if printed == "consistent\n" else "not all repaired"
 
 
 class Comparison:
-    """An image, what both sides say of it, and where they disagree."""
+    """An image, and the disagreements of both sides on it."""
 
     def __init__(self, path, qmeta):
         self.path, self.qmeta = path, qmeta
@@ -70,13 +70,13 @@ class Comparison:
         self.same = self.problems.same
 
     def said(self, command, *words):
-        """What `qmeta` prints for a command on the image."""
+        """The output of a command of `qmeta` on the image."""
         return qmeta_output(self.qmeta, self.path, command, *words)
 
-    # What is said of an image
+    # Reading commands
 
     def compare_info(self):
-        """Compares `qmeta info` with the header's bytes on where the tables lie, and with qemu-img on all else."""
+        """Compares `qmeta info` with the header's bytes on the places of tables, and with qemu-img on all else."""
         header, told = self.header, json.loads(qemu_img_json(self.path, "info"))
         specific = told["format-specific"]["data"]
         version = {"0.10": 2, "1.1": 3}[specific["compat"]]
@@ -100,7 +100,7 @@ class Comparison:
             self.same("info", line, expected)
 
     def compare_mappings(self):
-        """Compares all clusters of the disk. One that a side doesn't name is left to the backing file."""
+        """Compares the mappings of all guest clusters. One that a side doesn't list reads as the backing file."""
         extents = json.loads(qemu_img_json(self.path, "map"))
         expected = self.expected_mappings(extents)
         listed = self.listed_mappings()
@@ -110,7 +110,7 @@ class Comparison:
             self.same(f"list {offset:#x}", "compressed" if is_compressed else text, expected.get(offset))
             if is_compressed:
                 self.compare_compressed(offset, text)
-        # `qmeta at` is asked at the ends of extents, in their midst and within a cluster.
+        # `at` gets guest offsets at the ends of extents, in their middle and within a cluster
         for extent in extents[:: len(extents) // 20 + 1]:
             start, length = extent["start"], extent["length"]
             for offset in sorted({start, start + 1, start + length // 2, start + length - 1}):
@@ -119,7 +119,7 @@ class Comparison:
                 self.same(f"at {offset:#x}", self.said("at", offset), expected_text + "\n")
 
     def listed_mappings(self):
-        """What `qmeta list` says of each guest cluster, by where that begins."""
+        """The mappings that `qmeta list` prints, by guest offset."""
         listed = {}
         for line in self.said("list").splitlines():
             offset, _, text = line.partition(" ")
@@ -130,13 +130,13 @@ class Comparison:
         return listed
 
     def expected_mappings(self, extents):
-        """What qemu-img map says of each guest cluster that the image itself maps, in qmeta's words.
+        """The mapping of each guest cluster that the image itself maps, by qemu-img map, in qmeta's words.
 
-        An extent of the top layer has depth 0 and is present. Where the file has a hole, qemu-img splits a data
-        cluster, and says of a part that it reads as zeros too; it is data all the same. So the parts of a cluster
-        must say the same. What qemu-img doesn't say is compared otherwise: whether a cluster is copied with its
-        refcount, where compressed data lies with that data (`compare_compressed`), and zeros that have the first
-        cluster of an external data file with their entry.
+        An extent of the top layer has depth 0 and is present. At a hole of the file, qemu-img splits a data cluster,
+        and reports a part of it as zeros too; it is data all the same. So the parts of a cluster must have one mapping.
+        Other sources give the facts that qemu-img doesn't print: the refcount gives the copied flag, the data itself
+        the place of compressed data (`compare_compressed`), and the entry the zeros that have the first cluster of an
+        external data file.
         """
         image, expected = Image(self.path), {}
         for extent in extents:
@@ -149,7 +149,7 @@ class Comparison:
         return expected
 
     def expected_mapping(self, image, extent, offset):
-        """What an extent says of the guest cluster that begins at an offset."""
+        """The mapping of the guest cluster at an offset, by its extent."""
         if offset == 0 and image.has_zeros_at_start:
             return "zero 0x0 copied"
         if "offset" not in extent:
@@ -160,7 +160,7 @@ class Comparison:
         return f"{'data' if extent['data'] else 'zero'} {host_offset:#x}{' copied' if is_copied else ''}"
 
     def compare_compressed(self, offset, text):
-        """Compares compressed data, which ends in the last sector that qmeta says, with what was written."""
+        """Compares compressed data with the written pattern. It must end in the last sector of qmeta's range."""
         _, place, length = text.split()
         stored = Image(self.path).bytes_at(int(place, 16), int(length))
         try:
@@ -182,10 +182,10 @@ class Comparison:
         self.same("map", self.said("map", "json"), expected)
 
     def above_holes(self, extents):
-        """The extents as the image's own format tells them.
+        """The extents by the image's own format.
 
-        Where a file that holds data has a hole, qemu-img looks below the format, and tells that part of the data as
-        zeros too. It tells no offset of zeros that keep the first cluster of an external data file.
+        At a hole of the file with the data, qemu-img looks below the format, and reports that part of the data as
+        zeros too. It prints no offset for zeros that keep the first cluster of an external data file.
         """
         image, above = Image(self.path), []
         for extent in extents:
@@ -201,7 +201,7 @@ class Comparison:
     # Edits and refcounts
 
     def compare_edits(self):
-        """Edits clusters, corrects the refcounts, and compares what is left with what QEMU finds in the image."""
+        """Edits clusters, corrects the refcounts, and compares the results with QEMU's tools."""
         self.compare_check("check of the new image")
         listed = self.listed_mappings()
         data = [offset for offset, text in listed.items() if re.fullmatch("data .* copied", text)]
@@ -217,7 +217,7 @@ class Comparison:
         self.compare_mappings()
 
     def discard_and_restore(self, offset, text):
-        """Discards a data cluster, and maps it again. The image is as it was then, byte for byte."""
+        """Discards a data cluster, and maps it again. Then the image must be as before, byte for byte."""
         before = self.path.read_bytes()
         cluster = self.host_clusters(text).start
         self.free("discard", offset, text)
@@ -227,8 +227,7 @@ class Comparison:
         self.step_refcounts("inc", [cluster])
         self.compare_check("check after mapping again")
         after = self.path.read_bytes()
-        # A program that doesn't know what the autoclear feature of raw data says clears it as it opens the image for
-        # writing.
+        # a program that doesn't keep the autoclear feature of raw data up to date clears it when it changes the image
         had_raw_data, has_raw_data = (
             Header.unpack(stored).autoclear_features & RAW_DATA != 0 for stored in (before, after)
         )
@@ -247,13 +246,13 @@ class Comparison:
         self.same("at zeros", self.said("at", offset), "zero\n")
 
     def edit(self, name, offset, *arguments):
-        """What `qmeta edit` prints for an edit of the guest cluster that begins at an offset."""
+        """Edits the guest cluster at an offset by `qmeta edit`, and returns the output."""
         self.edits += 1
         l1_index, l2_index = divmod(offset // self.cluster_size, self.header.table_entries)
         return self.said("edit", l1_index, ":".join(map(str, (name, l2_index, *arguments))))
 
     def free(self, name, offset, text):
-        """Compares what an edit prints that drops a mapping, and its leaks, which correct refcounts then mend.
+        """Compares the output of an edit that drops a mapping, and its leaks, which `count` and a repair mend alike.
 
         An external data file has no refcounts, so the image leaks nothing then.
         """
@@ -267,20 +266,20 @@ class Comparison:
         self.compare_check(f"check after {what} and counting")
 
     def repaired_copy(self):
-        """The bytes of a copy of the image that was repaired, or nothing with snapshots, which a repair refuses."""
+        """The bytes of a repaired copy of the image, or None if it has snapshots, which a repair must refuse."""
         copy, has_snapshots = self.path.with_suffix(".copy"), self.header.nb_snapshots > 0
         shutil.copyfile(self.path, copy)
         run([self.qmeta, "check", copy.name, "repair"], copy.parent, (1 if has_snapshots else 0,))
         return None if has_snapshots else copy.read_bytes()
 
     def host_clusters(self, text):
-        """The host clusters of a mapping: one of data, all that compressed data touches."""
+        """The host clusters of a mapping: one of data, or all that compressed data touches."""
         kind, start, *words = text.split()
         last = int(start, 16) + (int(words[0]) if kind == "compressed" else 1) - 1
         return range(int(start, 16) // self.cluster_size, last // self.cluster_size + 1)
 
     def step_refcounts(self, step, clusters):
-        """Makes a step of the refcount of each host cluster, if the image has refcounts for them."""
+        """Makes a step of the refcount of each host cluster, unless they lie in an external data file."""
         for cluster in clusters if not self.header.is_external else []:
             image = Image(self.path)
             before, (block, index) = image.refcount(cluster), image.refcount_place(cluster)
@@ -309,9 +308,9 @@ class Comparison:
             self.compare_objects(what, printed_object.partition("status ")[0])
 
     def compare_objects(self, what, printed):
-        """Compares the object of `qmeta check` in JSON with qemu-img's: byte for byte, or what that counts alike.
+        """Compares the JSON object of `qmeta check` with qemu-img's: byte for byte, or members that both count alike.
 
-        Members that qemu-img's object doesn't have are left out.
+        Skips members that only `qmeta` prints.
         """
         told = qemu_img_json(self.path, "check", CHECK_STATUSES)
         printed = OWN_MEMBERS.sub("", printed)
@@ -324,9 +323,9 @@ class Comparison:
             self.same(f"{name} of {what} in JSON, by qemu-img", found.get(name), expected.get(name))
 
     def compare_repair(self):
-        """Repairs the image. Compares its bytes and what is printed with the definitions, and then both checks again.
+        """Repairs the image. Compares its bytes and the output with the definitions, and then both checks again.
 
-        A repair that is refused changes no byte. What another leaves is of clusters that no block counts.
+        A refused repair must change no byte. Any other may only leave findings about clusters that no block counts.
         """
         differences = self.differences
         before = self.path.read_bytes()

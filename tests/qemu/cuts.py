@@ -1,6 +1,6 @@
-"""Cuts of a run of `qmeta apply`: what it writes and when it syncs that, and the images that a crash may leave.
+"""Cuts of a run of `qmeta apply`: its writes and syncs, and the images that a crash may leave.
 
-A sector is written as a whole or not at all, and all before a sync is written before what comes after it.
+A device writes a sector as a whole or not at all, and all before a sync before all after it.
 """
 
 import os
@@ -15,14 +15,14 @@ from .kinds import Maker
 from .tools import ToolFailed, qemu_check_counts, run
 from .trials import Trial
 
-# What a run edits.
+# The edits of a run.
 NAMES = ["discard"] * 8 + ["zero"] * 6 + ["keep"] * 6 + ["map"] * 9
 
-# How many cuts are drawn of what comes between two syncs, how many more of a write, and of how many sectors each is
-# left out, and each is alone.
+# The random cuts between two syncs, those within a write, and the sectors of which each is missing, and each is alone.
 RANDOM_CUTS, TORN_CUTS, SINGLES = 48, 3, 40
 
-# The calls that strace shows, and those of them that are understood. It shows all bytes of a write up to that many.
+# The most bytes of a write that strace shows, and the traced calls. A call of OTHERS, or `mmap`, of the image is a
+# failure.
 MOST_BYTES = 100_000_000
 WRITES = {"write", "pwrite64"}
 OTHERS = {"writev", "pwritev", "pwritev2", "ftruncate", "fallocate", "copy_file_range", "sync_file_range", "sendfile"}
@@ -31,10 +31,10 @@ DUPLICATES = {"dup", "dup2", "dup3", "fcntl"}
 CALLS = WRITES | OTHERS | SYNCS | DUPLICATES | {"openat", "open", "close", "lseek", "mmap"}
 CALL = re.compile(r"(\w+)\((.*)\) += (-?\d+|0x[0-9a-f]+)")
 
-# The four parts of a run, and where each writes.
+# The names of the four parts of a run, by their content.
 PARTS = ("autoclear features", "what rises", "tables", "what falls")
 
-# Orders of the parts that no program may have. A pair is two parts with no sync between them.
+# Orders of the parts that no program may have. A pair is two parts without a sync between them.
 WRONG_ORDERS = {
     "what falls before the tables": (0, 1, 3, 2),
     "what rises after the tables": (0, 2, 1, 3),
@@ -44,21 +44,21 @@ WRONG_ORDERS = {
 
 
 class Write(NamedTuple):
-    """Bytes that are written to a file, and where."""
+    """A write to a file: its offset and its bytes."""
 
     offset: int
     bytes: bytes
 
 
 class Opened:
-    """An open file, and where the next call reads or writes it. Descriptors that were duplicated share it."""
+    """An open file with its position, which duplicated descriptors share."""
 
     def __init__(self):
         self.place = 0
 
 
 class Piece(NamedTuple):
-    """What a write changes within a sector, and which write that is."""
+    """The change of a write within a sector: the offset, the bytes, and the number of the write."""
 
     offset: int
     bytes: bytes
@@ -66,7 +66,7 @@ class Piece(NamedTuple):
 
 
 class Cut(NamedTuple):
-    """Which pieces reach the disk, by their numbers, and how that is said."""
+    """The numbers of the pieces that reach the disk, and their description in words."""
 
     words: str
     pieces: tuple
@@ -81,12 +81,12 @@ def text_of(quoted):
 
 
 def duplicates(call, words):
-    """Whether a call makes another descriptor of an open file: of what `fcntl` does, two commands do."""
+    """Whether a call makes another descriptor of an open file, as two commands of `fcntl` do."""
     return call in DUPLICATES and (call != "fcntl" or words[1] in ("F_DUPFD", "F_DUPFD_CLOEXEC"))
 
 
 def parts_of(log, name):
-    """The writes to a file of that name between its syncs. The last list is of those after the last sync."""
+    """The lists of writes to a file of that name between its syncs. The last one has those after the last sync."""
     opened, parts = {}, [[]]
     for call, arguments, returned in (found.groups() for found in map(CALL.match, log) if found):
         words = arguments.split(", ")
@@ -115,7 +115,7 @@ def parts_of(log, name):
 
 
 def record(qmeta, path, words):
-    """Runs `qmeta apply` on the image under strace, and returns the parts of what it writes."""
+    """Runs `qmeta apply` on the image under strace, and returns the parts of its writes."""
     log = path.with_suffix(".log")
     trace = ["strace", "-o", log.name, "-xx", "-s", str(MOST_BYTES), "-e", f"trace={','.join(sorted(CALLS))}"]
     run([*trace, qmeta, "apply", path.name, *words], path.parent)
@@ -126,7 +126,7 @@ def record(qmeta, path, words):
 
 
 def wrong_places(parts, image):
-    """What a record's parts write elsewhere than they must, in words."""
+    """The writes of a record to places other than those of their part, in words."""
     size, blocks = image.header.cluster_size, set(image.refcount_blocks.values())
     places = [{0}, blocks, set(image.l2_tables), blocks]
     for name, part, offsets in zip(PARTS, parts, places):
@@ -142,7 +142,7 @@ def wrong_places(parts, image):
 
 
 def pieces_of(part, file):
-    """The pieces of a part's writes that change something, in a file that has all parts before it."""
+    """The pieces of a part's writes that change something, in a file with all earlier parts."""
     pieces, seen = [], set()
     for number, write in enumerate(part):
         place, end = write.offset, write.offset + len(write.bytes)
@@ -158,13 +158,13 @@ def pieces_of(part, file):
 
 
 def drawn(numbers, chance):
-    """Some of the numbers, each as likely as any other."""
+    """Some of the numbers, each with the same chance."""
     share = chance.random()
     return tuple(number for number in numbers if chance.random() < share)
 
 
 def all_cuts(pieces, chance):
-    """Which pieces may reach the disk where a part is cut off."""
+    """The sets of pieces that may reach the disk if a crash cuts a part off."""
     numbers = range(len(pieces))
     for count in range(len(pieces) + 1):
         yield Cut(f"the first {count} sectors", tuple(numbers[:count]))
@@ -181,7 +181,7 @@ def all_cuts(pieces, chance):
 
 
 class Working:
-    """A file that is left as a crash may leave it. It is a copy of an original."""
+    """A copy of an original, put into the states that a crash may leave."""
 
     def __init__(self, path, original):
         self.path = path
@@ -189,7 +189,7 @@ class Working:
         self.file = os.open(path, os.O_RDWR)
 
     def write(self, pieces):
-        """Writes pieces, and returns those that undo this."""
+        """Writes pieces, and returns the pieces that undo them."""
         undone = []
         for piece in pieces:
             undone.append(piece._replace(bytes=os.pread(self.file, len(piece.bytes), piece.offset)))
@@ -197,7 +197,7 @@ class Working:
         return undone[::-1]
 
     def cuts(self, parts, chance):
-        """Leaves the file in each way that it may be cut off in, and yields how. At the end all is written."""
+        """Puts the file into each state that a cut may leave, and yields its description. At the end all is written."""
         for name, part in parts:
             pieces, seen = pieces_of(part, self.file), set()
             for cut in all_cuts(pieces, chance):
@@ -214,17 +214,17 @@ class Working:
         self.path.unlink()
 
 
-# What is left
+# Checks of the images
 
 
 def found_by_qemu(path):
-    """What `qemu-img check` finds: leaks, and all that is worse."""
+    """The numbers of leaks and of worse findings of `qemu-img check`."""
     counts = qemu_check_counts(path)
     return counts["leaks"], counts["corruptions"] + counts["check-errors"]
 
 
 class CutTrial(Trial):
-    """An image, one run of `apply` on it, and what its cuts leave. A share of those that leak is repaired."""
+    """An image, one run of `apply` on it, and the run's cuts. A share of those that leak is repaired."""
 
     def __init__(self, number, kind, qmeta, folder, share):
         super().__init__(kind, folder / f"image-{number}.qcow2", qmeta)
@@ -234,14 +234,14 @@ class CutTrial(Trial):
         self.parts = []
 
     def attempt(self):
-        """Makes the image, runs `apply` on it, and looks at all cuts of that run, and of wrong orders of it."""
+        """Makes the image, runs `apply` on it, and checks all cuts of that run, and of wrong orders of it."""
         Maker(self.kind, self.path, self.chance).make()
         self.run_once()
         self.cut_all()
         self.cut_wrong_orders()
 
     def run_once(self):
-        """Runs `apply` once, and looks at what it wrote."""
+        """Runs `apply` once, and checks its writes and the image."""
         run(["cp", self.path.name, self.before.name], self.path.parent)
         if found_by_qemu(self.path) != (0, 0):
             self.problems.append("the image isn't consistent before the run")
@@ -256,7 +256,7 @@ class CutTrial(Trial):
             self.problems.append(f"not the four parts, but writes by part: {[len(part) for part in self.parts]}")
 
     def has_leaks_alone(self, words, path):
-        """Whether an image leaks, and no more is wrong with it. Counts it, and anything worse is a problem."""
+        """Whether an image has leaks and nothing worse, which is a problem. Counts the image."""
         leaks, errors = found_by_qemu(path)
         self.counts["wrong" if errors else "leaking" if leaks else "clean"] += 1
         if errors:
@@ -264,7 +264,7 @@ class CutTrial(Trial):
         return leaks > 0 and errors == 0
 
     def cut_all(self):
-        """Looks at all cuts of the run, and repairs some of those that leak."""
+        """Checks all cuts of the run, and repairs a share of those that leak."""
         working = Working(self.path.with_suffix(".cut"), self.before)
         for words in working.cuts(zip_longest(PARTS, self.parts, fillvalue=()), self.chance):
             self.counts["cuts"] += 1
@@ -275,7 +275,7 @@ class CutTrial(Trial):
         working.close()
 
     def repair(self, cut, path):
-        """Frees what leaks in a copy, after which nothing may be wrong."""
+        """Frees the leaks of a copy, which must then be consistent."""
         copy = path.with_suffix(".copy")
         run(["cp", path.name, copy.name], path.parent)
         words = ["qemu-img", "check", "-q", "-f", "qcow2", "-r", "leaks", copy.name]
@@ -287,7 +287,7 @@ class CutTrial(Trial):
             self.problems.append(f"{cut}: leaks that weren't freed, status {ended.returncode} of the repair")
 
     def cut_wrong_orders(self):
-        """Counts the orders that no program may have of which some cut has an error."""
+        """Counts the wrong orders of which some cut has an error."""
         for name, order in WRONG_ORDERS.items() if len(self.parts) == len(PARTS) else []:
             numbers = [number if isinstance(number, tuple) else (number,) for number in order]
             parts = [("", [write for part in pair for write in self.parts[part]]) for pair in numbers]

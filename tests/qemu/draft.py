@@ -1,7 +1,7 @@
 """The writer of qcow2 images: from bytes of tables and refcounts, and from drafts that are damaged at random.
 
-A `Draft` is a whole image in memory, whose clusters lie at random. As it is made, its refcounts and copied flags are
-right. Damages change it.
+A `Draft` is a whole image in memory, whose parts lie in random order. Its refcounts and copied flags are right until
+damages change it.
 """
 
 import struct
@@ -11,13 +11,13 @@ from typing import NamedTuple
 
 from .image import COMPRESSED, COPIED, DATA_FILE, ENTRY_SIZE, EXTERNAL_DATA, SECTOR, ZERO, Geometry, Header
 
-# How many bytes are written at once, or left to be a hole.
+# The bytes that are written at once, or become a hole.
 PAGE = 4096
 
-# Sizes of clusters, by their bits: most are small, since a check of a small disk says more then.
+# Cluster bits: most are small, since a check of a small disk shows more then.
 CLUSTER_BITS = [9, 9, 9, 10, 11, 12, 12, 13, 14, 16, 18, 21]
 
-# How many damages an image may have.
+# The most damages of an image.
 MOST_DAMAGES = 4
 
 
@@ -32,7 +32,7 @@ def table_bytes(entries):
 
 
 def table_with(entries, count):
-    """The bytes of a table of that many entries, of which these, by their indices, aren't 0."""
+    """The bytes of a table of that many entries, all 0 except these, by their indices."""
     table = array("Q", bytes(ENTRY_SIZE * count))
     for index, bits in entries.items():
         table[index] = bits
@@ -62,7 +62,7 @@ def write_entry(path, offset, index, bits):
 
 
 def write_image(path, header, parts, length):
-    """Writes an image of that length: the bytes of its header, and parts, which are a host offset and bytes each."""
+    """Writes an image of that length: the bytes of its header, and parts, each a host offset and bytes."""
     with open(path, "wb") as file:
         for offset, stored in [(0, header), *parts]:
             write_pages(file, offset, memoryview(stored))
@@ -70,7 +70,7 @@ def write_image(path, header, parts, length):
 
 
 def write_pages(file, offset, stored):
-    """Writes bytes from an offset on. Pages of zeros are left to be holes."""
+    """Writes bytes from an offset on. Pages of zeros become holes."""
     for start in range(0, len(stored), PAGE):
         page = stored[start : start + PAGE]
         if page != bytes(len(page)):
@@ -82,7 +82,7 @@ def write_pages(file, offset, stored):
 
 
 class Part(NamedTuple):
-    """Clusters in a row that have one task, in the image or before it has a place."""
+    """Clusters in a row of one kind, in the image or before they have a place."""
 
     kind: str
     count: int
@@ -97,7 +97,7 @@ class Slot(NamedTuple):
 
 
 class Draft:
-    """An image before it is written: its tables, as dictionaries of what isn't 0, and its refcounts."""
+    """An image before it is written: its tables, as dictionaries of entries other than 0, and its refcounts."""
 
     def __init__(self, chance):
         self.chance = chance
@@ -121,7 +121,7 @@ class Draft:
     # Making it
 
     def place_parts(self):
-        """Places the parts in any order, with some free clusters between, and enough blocks for all of them."""
+        """Places the parts in random order, with some free clusters between, and enough blocks for all of them."""
         chance = self.chance
         large = self.geometry.cluster_bits > 14
         self.l1_size = chance.choice([1, 3, 6, 6, 150 if self.geometry.cluster_bits == 9 else 2])
@@ -146,7 +146,7 @@ class Draft:
         return [part for part in self.parts if part.kind == kind]
 
     def name_tables(self):
-        """Names L2 tables by any L1 entries, and refcount blocks by the first entries of the refcount table."""
+        """Names L2 tables in random L1 entries, and refcount blocks in the first entries of the refcount table."""
         starts = [part.first for part in self.of_kind("table")]
         indices = self.chance.sample(range(self.l1_size), len(starts))
         self.l1 = {index: start * self.cluster_size for index, start in zip(indices, starts)}
@@ -154,7 +154,7 @@ class Draft:
         self.refcount_table = {n: part.first * self.cluster_size for n, part in enumerate(self.of_kind("block"))}
 
     def map_guest_clusters(self):
-        """Maps guest clusters to data, some of it with zeros, some of it twice, and to compressed data."""
+        """Maps guest clusters to data, some of it up to three times, some as zeros, and to compressed data."""
         chance, self.guest = self.chance, Counter()
         for cluster in [part.first for part in self.of_kind("data")]:
             for _ in range(chance.choice([1, 1, 1, 2, 3])):
@@ -165,7 +165,7 @@ class Draft:
                 self.map_if_counted(*self.compressed(part.first, part.first + part.count))
 
     def compressed(self, first, end):
-        """An entry of compressed data that lies in some clusters, and the clusters that it meets."""
+        """An entry of compressed data within some clusters, and the clusters that it touches."""
         offset = self.chance.randrange(first * self.cluster_size, end * self.cluster_size)
         sector = offset // SECTOR
         most = min(self.cluster_size // SECTOR, end * self.cluster_size // SECTOR - sector)
@@ -175,7 +175,7 @@ class Draft:
         return bits, range(offset // self.cluster_size, last // self.cluster_size + 1)
 
     def map_if_counted(self, bits, clusters):
-        """Maps some guest cluster by an entry, unless a refcount would pass the greatest."""
+        """Maps a random guest cluster by an entry, unless it is mapped or a refcount would pass the greatest."""
         table = self.tables[self.chance.choice(list(self.tables))]
         index = self.chance.randrange(self.entries)
         if index not in table and all(self.guest[cluster] < self.geometry.greatest_refcount for cluster in clusters):
@@ -197,19 +197,19 @@ class Draft:
                 if not bits & COMPRESSED and refcount == 1:
                     table[index] |= COPIED
 
-    # What damages ask for
+    # Random choices of damages
 
     def any_cluster(self):
-        """A cluster of any part, or one of the first past the end."""
+        """A random cluster after the header's, or one of the first three past the end."""
         return self.chance.choice([self.chance.randrange(1, self.end)] * 5 + [self.end + self.chance.randrange(3)])
 
     def any_slot(self, tables):
-        """An entry of some tables that isn't 0, if there is one."""
+        """A random entry of some tables that isn't 0, if there is one."""
         slots = [Slot(table, index) for table in tables for index in table]
         return self.chance.choice(slots) if slots else None
 
     def guest_slot(self):
-        """An entry of an L2 table, of which some are new."""
+        """A random entry of an L2 table, sometimes one that may be 0."""
         if self.chance.random() < 0.3:
             table = self.tables[self.chance.choice(list(self.tables))]
             return Slot(table, self.chance.randrange(self.entries))
@@ -218,7 +218,7 @@ class Draft:
     # Writing it
 
     def write(self, path):
-        """Writes its header, its tables and its blocks. All else of the file is a hole, as small disks are."""
+        """Writes the header, the tables and the blocks. All else of the file is a hole."""
         (l1,), (refcount_table,), size = self.of_kind("l1"), self.of_kind("refcount table"), self.cluster_size
         parts = [(l1.first * size, table_with(self.l1, self.l1_size))]
         parts += [(refcount_table.first * size, table_with(self.refcount_table, self.entries))]
@@ -227,7 +227,7 @@ class Draft:
         write_image(path, self.header_bytes(l1, refcount_table, path.stem), parts, self.length)
 
     def block_bytes(self, number):
-        """The bytes of a refcount block, by its place in the refcount table as it was made."""
+        """The bytes of a refcount block, by its index in the refcount table before damages."""
         stored, each = bytearray(self.cluster_size), self.geometry.block_refcounts
         for cluster, refcount in self.refcounts.items():
             if refcount and cluster // each == number:
@@ -235,7 +235,10 @@ class Draft:
         return stored
 
     def header_bytes(self, l1, refcount_table, name):
-        """The bytes of the header, with the name of an external data file, which is made of the image's."""
+        """The bytes of the header, and of an extension with the name of the external data file, if there is one.
+
+        That is the image's name with another suffix.
+        """
         header = Header(
             cluster_bits=self.geometry.cluster_bits,
             refcount_order=self.geometry.refcount_order,
@@ -252,7 +255,7 @@ class Draft:
         return header.pack() + extension * self.is_external
 
 
-# Damages: each changes a draft, where it has what the damage is of
+# Damages: each changes a draft, if that has anything to damage so
 
 
 def raise_counter(draft):
@@ -281,7 +284,7 @@ def raise_counters_in_a_row(draft):
 
 
 def turn_flag(draft):
-    """Turns copied flags, of L1 entries and of L2 entries that aren't compressed."""
+    """Flips copied flags of L1 entries and of L2 entries that aren't compressed."""
     for _ in range(draft.chance.randrange(1, 4)):
         slot = draft.any_slot([draft.l1, *draft.tables.values()])
         if slot and not slot.table[slot.index] & COMPRESSED:
@@ -297,7 +300,7 @@ def point_entry(draft):
 
 
 def compress_entry(draft):
-    """Lets an L2 entry be compressed data anywhere in the image, often over the border of clusters."""
+    """Makes an L2 entry one of compressed data anywhere in the image, often across clusters."""
     slot = draft.guest_slot()
     if slot:
         slot.table[slot.index] = draft.compressed(draft.chance.randrange(draft.end), draft.end)[0]
@@ -319,13 +322,13 @@ def repeat_table(draft):
 
 
 def point_table(draft):
-    """Lets an L1 entry name any cluster as an L2 table."""
+    """Points an L1 entry at any cluster as its L2 table."""
     index = draft.chance.randrange(draft.l1_size)
     draft.l1[index] = draft.chance.choice([0, COPIED]) | draft.any_cluster() * draft.cluster_size
 
 
 def flag_no_table(draft):
-    """Sets the copied flag of an L1 entry without a table."""
+    """Sets the copied flag of an L1 entry that is 0."""
     index = draft.chance.randrange(draft.l1_size)
     draft.l1.setdefault(index, COPIED)
 
@@ -338,7 +341,7 @@ def drop_block(draft):
 
 
 def point_block(draft):
-    """Lets the refcount table name any cluster as a block, in place of one or as one more."""
+    """Points an entry of the refcount table at any cluster, in place of a block or as one more."""
     index = draft.chance.randrange(len(draft.refcount_table) + 2)
     draft.refcount_table[index] = draft.any_cluster() * draft.cluster_size
 

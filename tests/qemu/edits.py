@@ -1,6 +1,6 @@
-"""Lists of edits of a disk that are drawn at random, and what must become of them.
+"""Random lists of edits, and a prediction of their results.
 
-What `qmeta apply` must do follows docs/REFERENCE.md and docs/FORMAT.md.
+The prediction of `qmeta apply` follows docs/REFERENCE.md and docs/FORMAT.md.
 """
 
 from collections import Counter
@@ -9,19 +9,19 @@ from typing import NamedTuple
 from .faults import BAD_EDIT, NOT_PLACED, REFCOUNT_RANGE, SHARED_TABLE, VERSION_NEEDED
 from .image import COMPRESSED, COPIED, ZERO
 
-# How many clusters a range has that is drawn, and how many it may have at most if it is no discard.
+# The lengths of random ranges in clusters, and the longest one of edits other than discards.
 LENGTHS = [1, 1, 1, 2, 3, 5, 9, 30, 100, 5000]
 MOST_ZEROS = 200
 
 
 def owned_tables(image):
-    """The L1 indices of the L2 tables that nothing else refers to."""
+    """The L1 indices of the L2 tables with one reference, by refcount and copied flag."""
     size = image.header.cluster_size
     return {e.index for e in image.l1_table if e.bits & COPIED and image.refcount(e.offset // size) == 1}
 
 
 def free_clusters(image):
-    """The clusters of the file that are free and have a refcount."""
+    """The clusters of the file that have the refcount 0 in a block."""
     clusters = range(1, image.header.clusters_of(image.length))
     return [c for c in clusters if not image.refcount(c) and image.block_of(c) is not None]
 
@@ -30,7 +30,7 @@ def free_clusters(image):
 
 
 class Edit(NamedTuple):
-    """An edit of a disk: its name, its range in bytes, and the host cluster that it maps."""
+    """An edit: its name, its range in bytes, and the host cluster that it maps."""
 
     name: str
     offset: int
@@ -38,7 +38,7 @@ class Edit(NamedTuple):
     cluster: int = 0
 
     def word(self, chance, cluster_size):
-        """The word that says it, with numbers in decimal or in hexadecimal. One cluster's length may be left out."""
+        """The edit as an argument, with decimal or hexadecimal numbers. A discard of one cluster may have no length."""
         offset, length = (chance.choice([str, hex])(number) for number in (self.offset, self.length))
         if self.name == "map":
             return f"map:{offset}:{self.cluster}"
@@ -47,7 +47,7 @@ class Edit(NamedTuple):
 
 
 class Drawer:
-    """Draws edits of the disk of an image, as its tables are now."""
+    """Draws edits of an image, by its current tables."""
 
     def __init__(self, image, chance):
         self.image, self.chance = image, chance
@@ -61,14 +61,14 @@ class Drawer:
         self.taken = []
 
     def draw(self, names, is_sound):
-        """Edits of these names, which can be made. Unless the list is sound, there is one more that mostly can't."""
+        """Possible edits of these names. Unless the list is sound, adds one that `qmeta` mostly refuses."""
         edits = [self.sound(name) for name in names]
         if not is_sound:
             edits.insert(self.chance.randrange(len(edits) + 1), self.flawed())
         return edits
 
     def sound(self, name):
-        """An edit that can be made. Where there is none of this name, a discard."""
+        """A possible edit of this name, or else a discard."""
         is_possible = {"map": bool(self.free), "discard": True}.get(name, self.image.header.version > 2)
         if not self.owned or not is_possible:
             name = "discard"
@@ -88,7 +88,7 @@ class Drawer:
         return min(first + self.chance.randrange(self.entries), self.clusters - 1)
 
     def range(self, name, first, tables):
-        """An edit from a guest cluster on, as far as these tables reach without a gap, and the disk."""
+        """An edit from a guest cluster on, within the disk and as far as these tables reach without a gap."""
         count = self.chance.choice(LENGTHS)
         end = min(first + (count if name == "discard" else min(count, MOST_ZEROS)), self.clusters)
         table = first // self.entries + 1
@@ -98,7 +98,7 @@ class Drawer:
         return Edit(name, first * self.cluster_size, (end - first) * self.cluster_size)
 
     def flawed(self):
-        """An edit that mostly can't be made."""
+        """An edit that `qmeta` mostly refuses."""
         chance, size, image = self.chance, self.cluster_size, self.image
         everywhere = set(range(image.header.l1_size))
         tables = chance.choice([everywhere, self.missing, everywhere - self.missing - self.owned or everywhere])
@@ -107,16 +107,16 @@ class Drawer:
         end = image.header.clusters_of(image.length)
         uncounted = [number for number in range(1, end) if image.block_of(number) is None]
         flaws = [
-            # of a table that may be shared, or not be there, as often as of anything else
+            # of a table that may be shared or missing, about as often as all other flaws
             *[edit, maps._replace(cluster=chance.choice(self.free or [1]))] * 5,
-            # not of whole clusters, or of none
+            # of partial clusters, or of none
             edit._replace(offset=edit.offset + chance.randrange(1, size)),
             edit._replace(length=edit.length - chance.randrange(1, size)),
             edit._replace(length=0),
             # past the disk's end
             edit._replace(length=self.clusters * size - edit.offset + size),
             edit._replace(offset=(1 << 64) - size),
-            # maps of a cluster in use, past the file's end, without a refcount, or that another edit maps
+            # maps of a cluster in use, past the file's end, that no block counts, or that another edit maps
             maps._replace(cluster=chance.choice(list(image.refcounts))),
             maps._replace(cluster=end + chance.randrange(3)),
             maps._replace(cluster=chance.choice(uncounted or [0])),
@@ -125,11 +125,11 @@ class Drawer:
         return chance.choice(flaws)
 
 
-# What must become of them
+# Predictions
 
 
 class Expected:
-    """What a list of edits must do to an image: the fault that refuses it, or its entries and refcounts afterwards."""
+    """The predicted result of a list of edits: the fault that refuses it, or the entries and refcounts afterwards."""
 
     def __init__(self, image, edits):
         self.image, self.edits = image, edits
@@ -148,14 +148,14 @@ class Expected:
         return range(edit.offset // self.cluster_size, (edit.offset + edit.length) // self.cluster_size)
 
     def fits(self, edit):
-        """Whether an edit is of whole clusters of the disk, and maps one of the file that isn't the header's."""
+        """Whether an edit has whole clusters of the disk, and maps a cluster of the file other than the header's."""
         is_whole = edit.offset % self.cluster_size == 0 and edit.length % self.cluster_size == 0 and edit.length > 0
         is_in_disk = self.range_of(edit).stop <= self.image.header.guest_clusters
         is_in_file = edit.name != "map" or 0 < edit.cluster * self.cluster_size < self.image.length
         return is_whole and is_in_disk and is_in_file
 
     def refusal(self):
-        """The fault that refuses the list before refcounts are looked at."""
+        """The fault that refuses the list before refcounts change."""
         if not all(map(self.fits, self.edits)):
             return BAD_EDIT
         if self.image.header.version == 2 and any(edit.name in ("zero", "keep") for edit in self.edits):
@@ -175,17 +175,17 @@ class Expected:
         return next(filter(None, (self.map_refusal(edit) for edit in edits if edit.name == "map")), None)
 
     def map_refusal(self, edit):
-        """The fault that refuses a map: its cluster has no refcount, or isn't free, or is mapped twice."""
+        """The fault that refuses a map, if no block counts its cluster, or it isn't free, or two edits map it."""
         if self.image.block_of(edit.cluster) is None:
             return NOT_PLACED
         maps = sum(other.name == "map" and other.cluster == edit.cluster for other in self.edits)
         return BAD_EDIT if self.image.refcount(edit.cluster) or maps > 1 else None
 
     def make(self, edit):
-        """Makes an edit, of guest clusters whose table is there."""
+        """Makes an edit in the predicted entries."""
         clusters = self.range_of(edit)
         if edit.name == "discard":
-            # a range may be of millions
+            # a range may have millions of clusters
             clusters = [cluster for cluster in self.entries if cluster in clusters]
         for cluster in clusters:
             bits = self.entries[cluster].bits if cluster in self.entries else 0
@@ -198,13 +198,13 @@ class Expected:
             self.put(cluster, {"discard": 0, "map": COPIED | edit.cluster * self.cluster_size}.get(edit.name, ZERO))
 
     def put(self, cluster, bits):
-        """Lets the entry of a guest cluster be this number, which is left out where it is 0."""
+        """Sets the entry of a guest cluster. An entry of 0 isn't kept."""
         self.entries[cluster] = self.image.l2_entry(cluster % self.table_entries, bits)
         if not bits:
             del self.entries[cluster]
 
     def refcount_refusal(self):
-        """The fault that refuses the list because a refcount can't follow. Gains are counted before losses."""
+        """The fault that refuses the list because a refcount can't follow. Gains count before losses."""
         for cluster in self.gains.keys() | self.losses.keys():
             risen = self.image.refcount(cluster) + self.gains[cluster]
             is_in_range = self.losses[cluster] <= risen <= self.image.header.greatest_refcount
@@ -220,7 +220,7 @@ class Expected:
         return {cluster: refcount for cluster, refcount in refcounts.items() if refcount}
 
     def printed(self):
-        """What is printed: clusters that are free then, those that have other references, and those that gained one."""
+        """The predicted output: the freed clusters, those that keep other references, and those that gained one."""
         refcounts, runs = self.refcounts(), []
         for cluster in sorted(self.losses):
             if cluster not in refcounts and runs and sum(runs[-1]) == cluster:

@@ -1,4 +1,4 @@
-"""The numbers of the faults that `qmeta` ends in, for those that are expected of it. `qmeta explain` explains each."""
+"""The numbers of the faults that tests expect of `qmeta`. `qmeta explain` explains each."""
 
 ENTRY_RESERVED = 18
 ENTRY_UNALIGNED = 19

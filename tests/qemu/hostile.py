@@ -1,7 +1,7 @@
-"""Hostile images: small files whose tables name few things many times, or clusters that lie far apart.
+"""Hostile images: small files whose tables name a few clusters many times, or clusters that lie far apart.
 
-A maker writes such a file and returns how many distinct clusters its L2 entries refer to. All that isn't a table or
-block with content is a hole of the file, or lies past its end, where zeros are read.
+A maker writes such a file and returns the number of distinct clusters that its L2 entries refer to. All except tables
+and blocks with content is a hole of the file, or lies past its end, and so reads as zeros.
 """
 
 from array import array
@@ -17,13 +17,13 @@ LARGE, LARGE_USUAL = Geometry(21, 0), Geometry(21)
 # Usual clusters with refcounts of 1 bit.
 NARROW = Geometry(16, 0)
 
-# How many entries an L1 table and a refcount table may have at most.
+# The most entries of an L1 table and of a refcount table.
 MOST_ENTRIES = 1 << 22
 
-# How far apart clusters lie that have no neighbour, and how many clusters compressed data meets at most.
+# The distance between clusters that lie far apart, and the most clusters that compressed data touches.
 APART, MET = 1 << 12, 3
 
-# How many L2 entries name clusters of several blocks in turn.
+# The number of L2 entries that name clusters of several blocks in turn.
 IN_TURN = 2048
 
 # Refcounts of 1 bit of which every second is 1.
@@ -31,7 +31,7 @@ CHECKERED = b"\xaa"
 
 
 class Place(NamedTuple):
-    """Where the tables of an image begin, by clusters. The L1 table begins with cluster 1."""
+    """The first clusters of the tables of an image. The L1 table begins with cluster 1."""
 
     geometry: Geometry
     l1_size: int
@@ -44,7 +44,7 @@ class Place(NamedTuple):
 
     @property
     def refcount_table_clusters(self):
-        """How many clusters the refcount table has."""
+        """The number of clusters of the refcount table."""
         return self.geometry.clusters_of(ENTRY_SIZE * self.blocks_named)
 
     @property
@@ -66,9 +66,9 @@ class Place(NamedTuple):
 
 
 def write_tables(path, place, l1_table, refcount_table, contents, end):
-    """Writes an image up to a cluster: tables that name these clusters, and what some clusters hold.
+    """Writes an image up to a cluster: tables that name these clusters, and the contents of some clusters.
 
-    The L1 table names no table by a 0, and has the copied flag of all others.
+    A 0 in the L1 table names no table. All other L1 entries have the copied flag.
     """
     size = place.geometry.cluster_size
     parts = [(size, table_bytes(COPIED * bool(cluster) | cluster * size for cluster in l1_table))]
@@ -101,11 +101,11 @@ def tables_in_turn(path, times):
     return 0
 
 
-# What is named many times
+# Tables and blocks that are named many times
 
 
 def entries_by_block(path, geometry, times):
-    """Entries of the refcount table name one block. In the range of each is a cluster that an L2 entry names.
+    """Entries of the refcount table all name one block. An L2 entry names a cluster in the range of each.
 
     The refcounts of the first clusters of each range are 1, so that the entries can be discarded.
     """
@@ -119,7 +119,7 @@ def entries_by_block(path, geometry, times):
 
 
 def repeated_block(path, geometry, times, byte):
-    """Entries of the refcount table name one block, whose bytes are all this one."""
+    """Entries of the refcount table all name one block, whose bytes are all this one."""
     place = Place(geometry, 1, times)
     contents = {place.free: byte * geometry.cluster_size}
     write_tables(path, place, [0], [place.free] * times, contents, place.free + 1)
@@ -127,7 +127,7 @@ def repeated_block(path, geometry, times, byte):
 
 
 def repeated_table(path, geometry, times, mapped):
-    """L1 entries name one L2 table, of which some entries name clusters with copied flags. Refcounts are 0."""
+    """L1 entries all name one L2 table, of which some entries name clusters with copied flags. Refcounts are 0."""
     place = Place(geometry, times, 1)
     table, block, first = range(place.free, place.free + 3)
     entries = {index: COPIED | (first + index) << geometry.cluster_bits for index in range(mapped)}
@@ -140,7 +140,10 @@ def repeated_table(path, geometry, times, mapped):
 
 
 def entries_apart(path, tables, apart, counted=1):
-    """Entries of L2 tables name clusters that lie this far apart. One block of zeros is named for the first of them."""
+    """Entries of L2 tables name clusters that lie this far apart. One block of zeros counts the first of them.
+
+    The first `counted` entries of the refcount table name it.
+    """
     place = Place(NARROW, tables, counted)
     block, first = place.free + tables, place.free + tables + 1
     count, size = tables * NARROW.table_entries, NARROW.cluster_size
@@ -151,7 +154,10 @@ def entries_apart(path, tables, apart, counted=1):
 
 
 def compressed_apart(path, tables, times):
-    """L2 entries of compressed data that meets three clusters each, far apart. Each table is named this often."""
+    """L2 entries have compressed data that touches three clusters each, far apart.
+
+    L1 entries name each table this often.
+    """
     place = Place(USUAL, tables * times, 1)
     block, first = place.free + tables, place.free + tables + 1
     count, size = tables * USUAL.table_entries, USUAL.cluster_size
@@ -167,7 +173,7 @@ def compressed_apart(path, tables, times):
 
 
 def header_alone(path, length):
-    """The longest L1 table and the longest refcount table, both past the end of a file of this length."""
+    """Names the longest L1 table and the longest refcount table, both past the end of a file of this length."""
     place = Place(SMALL, MOST_ENTRIES, MOST_ENTRIES)
     write_image(path, place.header().pack(), [], length)
     return 0
@@ -177,7 +183,7 @@ def header_alone(path, length):
 
 
 class Case(NamedTuple):
-    """A hostile file: its name, the commands that are timed, and its maker with what that is told."""
+    """A hostile file: its name, the timed commands, and its maker with its arguments."""
 
     name: str
     commands: tuple
@@ -214,7 +220,7 @@ CASES = (
 
 
 class Measures(NamedTuple):
-    """What the bounds are linear in: the bytes of distinct tables and blocks, and the distinct clusters in use."""
+    """The measures that bounds are linear in: T, the bytes of distinct tables and blocks, and U, clusters in use."""
 
     table_bytes: int
     used: int
@@ -228,7 +234,7 @@ class Measures(NamedTuple):
 def measures(path, mapped):
     """The measures of an image whose L2 entries refer to that many clusters, none of them a table's or a block's.
 
-    A table counts whole, also where it is a hole of the file or past its end.
+    A table counts whole, even if it is a hole of the file or past its end.
     """
     image = Image(path)
     header, size = image.header, image.header.cluster_size
@@ -239,6 +245,6 @@ def measures(path, mapped):
 
 
 def measures_of_whole(path):
-    """The measures of a consistent image each of whose clusters is in use."""
+    """The measures of a consistent image, in which each cluster is in use."""
     image = Image(path)
     return measures(path, 0)._replace(used=image.length // image.header.cluster_size)

@@ -1,7 +1,7 @@
 """The reader of qcow2 images: the header, the tables, the refcounts, and compressed data.
 
 It follows docs/FORMAT.md. Offsets and lengths are in bytes. Clusters are numbers: those of the file are host clusters,
-those of the disk guest clusters. Tables and refcounts are kept as what isn't 0.
+those of the disk guest clusters. Tables and refcounts keep only values other than 0.
 """
 
 import re
@@ -24,7 +24,7 @@ OFFSET = (1 << 56) - 512
 # The greatest end of a table or of compressed data in the file.
 GREATEST_END = 1 << 56
 
-# How many bytes a table entry has, and the unit in which compressed data is measured and disks write.
+# The bytes of a table entry, and the unit of compressed data's length and of disks' writes.
 ENTRY_SIZE, SECTOR = 8, 512
 
 # The fields of a header after its magic number, by their names in the standard.
@@ -38,10 +38,10 @@ MORE_FIELDS = struct.Struct(">QQQII")
 MORE_NAMES = ("incompatible_features", "compatible_features", "autoclear_features", "refcount_order")
 HEADER_LENGTH = FIELDS.size + MORE_FIELDS.size
 
-# Where the autoclear features are in the header, after two other sets of features, and how many bytes a set has.
+# The place of the autoclear features in the header, after two other sets of features, and the bytes of a set.
 AUTOCLEAR_OFFSET, AUTOCLEAR_LENGTH = FIELDS.size + 2 * 8, 8
 
-# The incompatible feature of an external data file, and the autoclear feature that this file is the guest's disk.
+# The incompatible feature of an external data file, and the autoclear feature by which that file is the plain disk.
 EXTERNAL_DATA, RAW_DATA = 1 << 2, 1 << 1
 
 # The encryption method whose keys lie in clusters that no table names.
@@ -50,12 +50,12 @@ LUKS = 2
 # The types of header extensions.
 BACKING_FORMAT, DATA_FILE = b"\xe2\x79\x2a\xca", b"DATA"
 
-# How many entries of a table are read at once.
+# The number of table entries that are read at once.
 PIECE = 512
 
 
 class Refused(Exception):
-    """An image is refused by the fault of this number."""
+    """The fault, by its number, that refuses an image."""
 
     def __init__(self, fault):
         super().__init__(f"the image is refused by fault {fault}")
@@ -64,34 +64,34 @@ class Refused(Exception):
 
 @dataclass(frozen=True)
 class Geometry:
-    """How an image is divided, by the bits of a cluster's size and the order of its refcounts' width."""
+    """The sizes of an image's parts, by cluster bits and refcount order."""
 
     cluster_bits: int
     refcount_order: int = 4
 
     @property
     def cluster_size(self):
-        """How many bytes a cluster has."""
+        """The size of a cluster in bytes."""
         return 1 << self.cluster_bits
 
     @property
     def table_entries(self):
-        """How many entries a table of one cluster has: each L2 table."""
+        """The number of entries of a table of one cluster, such as an L2 table."""
         return self.cluster_size // ENTRY_SIZE
 
     @property
     def mapped_by_table(self):
-        """How many bytes of the disk an L2 table maps."""
+        """The number of bytes of the disk that an L2 table maps."""
         return self.table_entries * self.cluster_size
 
     @property
     def refcount_bits(self):
-        """How many bits a refcount has."""
+        """The number of bits of a refcount."""
         return 1 << self.refcount_order
 
     @property
     def block_refcounts(self):
-        """How many refcounts a refcount block has."""
+        """The number of refcounts in a refcount block."""
         return self.cluster_size * 8 >> self.refcount_order
 
     @property
@@ -100,7 +100,7 @@ class Geometry:
         return (1 << self.refcount_bits) - 1
 
     def clusters_of(self, length):
-        """How many clusters these bytes need, if they begin with one."""
+        """The number of clusters that these bytes need, if they begin with one."""
         return -(-length // self.cluster_size)
 
 
@@ -125,7 +125,7 @@ class Header(Geometry):
 
     @classmethod
     def unpack(cls, stored):
-        """The header that these first bytes of an image are."""
+        """The header in these first bytes of an image."""
         fields = dict(zip(FIELD_NAMES, FIELDS.unpack_from(stored)[1:]))
         if fields["version"] > 2:
             fields.update(zip(MORE_NAMES, MORE_FIELDS.unpack_from(stored, FIELDS.size)))
@@ -139,17 +139,17 @@ class Header(Geometry):
 
     @property
     def is_external(self):
-        """Whether the guest's data lies in a file of its own, whose clusters have no refcounts."""
+        """Whether guest data lies in an external data file, whose clusters have no refcounts."""
         return self.incompatible_features & EXTERNAL_DATA != 0
 
     @property
     def guest_clusters(self):
-        """How many clusters the disk has. It may end within the last."""
+        """The number of guest clusters of the disk, which may end within the last."""
         return self.clusters_of(self.size)
 
     @property
     def l1_needed(self):
-        """How many entries the L1 table needs for the disk."""
+        """The number of L1 entries that the disk needs."""
         return -(-self.size // self.mapped_by_table)
 
     @property
@@ -159,7 +159,7 @@ class Header(Geometry):
 
 
 class Entry(NamedTuple):
-    """A table entry that isn't 0: its index, its bits, and the bytes that it refers to. Without a length it doesn't."""
+    """A table entry that isn't 0: its index, its bits, and the bytes that it refers to, none if the length is 0."""
 
     index: int
     bits: int
@@ -168,9 +168,9 @@ class Entry(NamedTuple):
 
 
 class Image:
-    """An image as its bytes are, without the tables of snapshots.
+    """An image by its bytes, without the tables of snapshots.
 
-    Each part is read when it is first asked for, and then kept. `read` reads all of them.
+    The first access to a part reads it, and keeps it. `read` reads all of them.
     """
 
     PARTS = ("l1_table", "refcount_blocks", "l2_tables", "refcounts")
@@ -214,11 +214,11 @@ class Image:
         return {offset: self.entries_at(offset, count, self.l2_entry) for offset in self.l2_offsets()}
 
     def l2_offsets(self):
-        """The host offsets of L2 tables, in the order of the L1 table. One that is named twice is there once."""
+        """The host offsets of L2 tables, each once, in the order of the L1 table."""
         return list({entry.offset: None for entry in self.l1_table if entry.length})
 
     def entries_at(self, offset, count, read):
-        """The entries of a table that aren't 0. It skips pieces of zeros."""
+        """The entries of a table that aren't 0. Skips pieces of zeros."""
         stored, entries = self.bytes_at(offset, ENTRY_SIZE * count), []
         for first in range(0, count, PIECE):
             piece = stored[ENTRY_SIZE * first : ENTRY_SIZE * (first + PIECE)]
@@ -264,7 +264,7 @@ class Image:
 
     @cached_property
     def has_zeros_at_start(self):
-        """Whether guest cluster 0 is zeros that keep the first cluster of an external data file."""
+        """Whether guest cluster 0 reads as zeros and keeps the first cluster of an external data file."""
         cluster, entry = next(self.guest_entries(), (None, None))
         return self.header.is_external and cluster == 0 and entry.bits == COPIED | ZERO
 
@@ -279,7 +279,7 @@ class Image:
 
     @cached_property
     def refcounts(self):
-        """Each host cluster whose refcount isn't 0, and that refcount. They are found by bytes that aren't 0."""
+        """The refcounts that aren't 0, by their host clusters. Finds them by bytes that aren't 0."""
         found = Counter()
         for index, offset in self.refcount_blocks.items():
             first = index * self.header.block_refcounts
@@ -289,7 +289,7 @@ class Image:
         return {cluster: refcount for cluster, refcount in found.items() if refcount}
 
     def refcounts_of_byte(self, place, byte):
-        """What a byte at a place of a refcount block adds to refcounts, by their indices in the block."""
+        """The values that a byte of a refcount block adds to refcounts, by their indices in the block."""
         width = self.header.refcount_bits
         if width < 8:
             first = place * 8 // width
@@ -298,20 +298,20 @@ class Image:
         return [(index, byte << width - 8 - 8 * further)]
 
     def refcount(self, cluster):
-        """The refcount of a host cluster, which is 0 where no block has one."""
+        """The refcount of a host cluster, 0 if no block counts it."""
         return self.refcounts.get(cluster, 0)
 
     def block_of(self, cluster):
-        """The host offset of the refcount block of a host cluster, if there is one."""
+        """The host offset of the refcount block that counts a host cluster, if there is one."""
         return self.refcount_blocks.get(cluster // self.header.block_refcounts)
 
     def refcount_place(self, cluster):
-        """The host cluster of the block with the refcount of a host cluster, and its index there, if there is one."""
+        """The host cluster of the block that counts a host cluster, and the refcount's index there, if there is one."""
         block = self.block_of(cluster)
         return None if block is None else (block // self.header.cluster_size, cluster % self.header.block_refcounts)
 
 
 def inflate(stored, most):
-    """At most that many bytes of compressed data, and the stored bytes that follow those which it needs."""
+    """Inflates at most that many bytes. Returns them, and the stored bytes after the compressed data."""
     inflater = zlib.decompressobj(-12)
     return inflater.decompress(stored, most), inflater.unused_data

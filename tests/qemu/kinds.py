@@ -1,8 +1,8 @@
 """Images for `qmeta apply`, which QEMU's tools make and fill.
 
-A disk has L2 tables of three tasks, in any order. The guest writes to most, after each snapshot too, so that they are
-the image's own. To one it writes before the first snapshot alone, so that snapshots share that table. To one it never
-writes, so that it isn't there. Free clusters with bytes in them end the file.
+A disk has L2 tables with three tasks, in random order. The guest writes to most of them, after snapshots too, so that
+these are the disk's own. It writes to one only before the first snapshot, so that snapshots share that table. It never
+writes to another, so that this one is missing. Free clusters with bytes in them end the file.
 """
 
 from dataclasses import dataclass
@@ -10,19 +10,19 @@ from dataclasses import dataclass
 from .image import AUTOCLEAR_OFFSET, SECTOR, Geometry, Image
 from .tools import create_image, fill_image, run, take_snapshot
 
-# How many guest clusters are data in rows, by the most bits that clusters have then. Larger ones have none in rows.
+# The number of guest clusters in rows of data, up to these cluster bits. Images with larger clusters have no rows.
 ROWS = {12: 1200, 14: 300}
 
-# At the end one of that many clusters of some rows is freed.
+# At the end the guest frees one in so many clusters of some rows.
 FREED = 9
 
-# How many free clusters the file ends with: more of 512 bytes, so that some may have no refcount.
+# The number of free clusters at the file's end: more of 512 bytes, so that some may lie past the last refcount block.
 SPARE, SMALL_SPARE = 6, 80
 
-# The most bytes of a plain write, and of what is written to a cluster of the backing file or at the file's end.
+# The most bytes of a plain write, and of a write to a cluster of the backing file or at the file's end.
 MOST_WRITTEN, FEW_BYTES = 1 << 16, 4096
 
-# What befell a guest cluster before any snapshot, and what befalls it after one, as commands of qemu-io.
+# The histories of guest clusters before any snapshot, and the writes after one, as commands of qemu-io.
 BEFORE = {
     "none": [],
     "data": ["write"],
@@ -34,20 +34,20 @@ BEFORE = {
 }
 AFTER = ["write", "write", "write -c", "write -z", "write -z -u", "discard"]
 
-# So much of a compressed cluster can't be compressed, and the rest are zeros.
+# The shares of a compressed cluster that are random bytes. The rest are zeros.
 ROUGH = (0.4, 0.55, 0.7, 0.8)
 
 
 @dataclass(frozen=True)
 class Kind(Geometry):
-    """What an image is like."""
+    """The features of an image."""
 
     version: int = 3
     snapshots: int = 0
     is_backed: bool = False
-    # whether all data is compressed anew by `qemu-img convert -c` before any snapshot
+    # whether `qemu-img convert -c` compresses all data anew before any snapshot
     is_converted: bool = False
-    # the autoclear feature that it has: none, `unknown` to all programs, or `bitmaps` with one bitmap
+    # its autoclear feature: none, `unknown` to all programs, or `bitmaps` with one bitmap
     autoclear: str = ""
     # the share of tables that the guest writes to after the last snapshot
     rewritten: float = 1
@@ -61,7 +61,7 @@ class Kind(Geometry):
 
     @property
     def options(self):
-        """The options of qemu-img for it."""
+        """The options of `qemu-img create`."""
         compat = "0.10" if self.version == 2 else "1.1"
         return f"cluster_size={self.cluster_size},refcount_bits={self.refcount_bits},compat={compat}"
 
@@ -72,7 +72,7 @@ def snapshot_name(number):
 
 
 class Maker:
-    """Makes an image of a kind at a path, and draws what the kind leaves open."""
+    """Makes an image of a kind at a path, and draws all that the kind doesn't set."""
 
     def __init__(self, kind, path, chance):
         self.kind, self.path, self.chance = kind, path, chance
@@ -84,7 +84,7 @@ class Maker:
         self.writes, self.mapped = 0, set()
 
     def part_of_cluster(self):
-        """How many bytes a disk or a file ends before a cluster does."""
+        """A random number of bytes by which a disk or a file ends before its last cluster does."""
         return SECTOR * self.chance.randrange(self.cluster_size // SECTOR)
 
     def make(self):
@@ -107,7 +107,7 @@ class Maker:
         return [index for index, task in enumerate(self.tasks) if task in tasks]
 
     def touched(self, table):
-        """Guest clusters of a table, some beside each other, in several sectors of it where it has these."""
+        """Guest clusters of a table, some next to each other, in several sectors of it if it has these."""
         entries = self.entries
         spans = [(0, 8), (60, 68), (126, 131), (254, 260), (entries // 2, entries // 2 + 4), (entries - 6, entries)]
         indices = sorted({index for first, end in spans for index in range(first, min(end, entries))})
@@ -116,15 +116,15 @@ class Maker:
         return [table * entries + index for index in indices[::step]]
 
     def rows(self):
-        """Where the rows of the image's own tables are."""
+        """The rows of guest clusters in the disk's own tables."""
         tables = self.tables("own")
         length = min(self.row // len(tables), self.entries - 16)
         return [range(first, first + length) for first in (table * self.entries + 8 for table in tables)]
 
-    # What befalls clusters
+    # Writes of the guest
 
     def steps_before(self):
-        """What befalls clusters before any snapshot: rows of data, and histories of the others that are touched."""
+        """The steps before any snapshot: rows of data, and histories of touched clusters."""
         rows = [row for row in self.rows() if row]
         steps = [("write row", row.start, len(row)) for row in rows]
         is_last = self.kind.snapshots == 0
@@ -137,7 +137,7 @@ class Maker:
         return steps
 
     def steps_after(self, is_last):
-        """What befalls clusters after a snapshot. Any write to a table makes one that is the image's own."""
+        """The steps after a snapshot. Any write to the range of a table makes it the disk's own."""
         written = [t for t in self.tables("own") if not is_last or self.chance.random() < self.kind.rewritten]
         steps = [("write", self.chance.choice(self.touched(table)), 1) for table in written]
         touched = [cluster for table in written for cluster in self.touched(table)]
@@ -149,26 +149,26 @@ class Maker:
         return steps
 
     def steps_at_the_end(self):
-        """Writes each other row, and frees clusters all over it."""
+        """The last steps: writes of every second row, and discards of clusters all over it."""
         rows = [row for row in self.rows()[::2] if row]
         freed = [("discard", cluster, 1) for row in rows for cluster in row[::FREED]]
         return [("write row", row.start, len(row)) for row in rows] + freed
 
     def can_compress(self, is_last):
-        """Whether clusters may be compressed. Refcounts of 2 bits can't count compressed data that a snapshot has."""
+        """Whether steps may compress clusters. Refcounts of up to 2 bits can't count it if a snapshot shares it."""
         return is_last or self.kind.refcount_order > 1
 
     def fill(self, steps):
-        """Lets steps befall guest clusters: a word, the first cluster, and how many there are.
+        """Runs steps by qemu-io: each is a word, the first guest cluster, and the number of clusters.
 
-        qemu-io 7.2 fails to write some compressed data after it freed the cluster of other such data, so that goes
-        first.
+        Compressed writes go first, since qemu-io 7.2 fails to write some compressed data after it freed the cluster of
+        other such data.
         """
         fill_image(self.path, [self.command(*step) for step in sorted(steps, key=lambda step: step[0] != "write -c")])
         self.mapped = {cluster for cluster, entry in Image(self.path).guest_entries() if entry.length}
 
     def command(self, word, first, count):
-        """The command of qemu-io for a step: each write has bytes of its own. The disk may end within a cluster."""
+        """The command of qemu-io for a step. The bytes change with the writes. The disk may end within a cluster."""
         self.writes += 1
         start = first * self.cluster_size
         length = min(count * self.cluster_size, self.size - start)
@@ -181,7 +181,7 @@ class Maker:
     # Files
 
     def write_patterns(self):
-        """Writes the files of what is written to rows, and to clusters that are compressed."""
+        """Makes the files with the bytes for rows, and for compressed clusters."""
         self.path.with_suffix(".row").write_bytes(self.chance.randbytes(self.row * self.cluster_size))
         for number, share in enumerate(ROUGH):
             rough = self.chance.randbytes(int(share * self.cluster_size))
@@ -197,7 +197,7 @@ class Maker:
         create_image(self.path, self.size, options)
 
     def write_backing(self, path):
-        """Writes a backing file with bytes in many clusters, which ends within the last table but one."""
+        """Writes a backing file with bytes in many clusters, which ends in the range of the last table but one."""
         with open(path, "wb") as file:
             for cluster in (cluster for table in range(len(self.tasks)) for cluster in self.touched(table)):
                 if self.chance.random() < 0.7:
@@ -214,7 +214,7 @@ class Maker:
         run(["qemu-img", "convert", *words], self.path.parent)
 
     def finish(self):
-        """Ends the file with free clusters that have bytes, and within the last of them.
+        """Adds free clusters with bytes to the end of the file, which ends within the last of them.
 
         Sets an autoclear feature that no program knows, if the image has it.
         """

@@ -1,4 +1,4 @@
-"""Images of a layout that a command asks for, written from bytes.
+"""Images of given layouts, written from bytes.
 
 The header is in cluster 0. The L1 table begins with cluster 1, and the L2 tables follow it.
 """
@@ -10,13 +10,13 @@ from collections import Counter
 from .draft import table_bytes, table_with, write_image
 from .image import COMPRESSED, COPIED, ENTRY_SIZE, SECTOR, ZERO, Geometry, Header
 
-# How many images are written of entries drawn at random, and how many clusters the data of each lies in.
+# The number of images with random entries, and of the host clusters that the data of each lies in.
 RANDOM_IMAGES, HOST_CLUSTERS = 40, 24
 
 # Clusters as QEMU makes them, and the smallest ones.
 USUAL, SMALL = Geometry(16), Geometry(9)
 
-# How many L2 tables the mixed image has, and how many entries the longest L1 table.
+# The number of L2 tables of the mixed image, and of entries of the longest L1 table.
 MIXED_TABLES = (1 << 21) // USUAL.table_entries
 MOST_L1_ENTRIES = 1 << 22
 
@@ -25,17 +25,17 @@ MOST_L1_ENTRIES = 1 << 22
 
 
 def random_images(folder):
-    """Writes random images one after the other, the same in each run, and yields the path of each and what it is."""
+    """Writes random images one after the other, the same in each run, and yields the path and a description of each."""
     for number in range(RANDOM_IMAGES):
         path = folder / f"random-{number}.qcow2"
         yield path, write_random_image(path, random.Random(f"random {number}"))
 
 
 def write_random_image(path, chance):
-    """Writes an image whose L2 entries are drawn at random, and returns what it is, in words.
+    """Writes an image whose L2 entries are drawn at random, and returns its description.
 
     Its data lies in host clusters after its tables: in a row, backwards, or in one cluster again and again. An empty
-    refcount table follows. The disk ends within a cluster and within an L2 table, and some L2 tables aren't there.
+    refcount table follows. The disk may end within a cluster and within an L2 table, and some L2 tables are missing.
     """
     geometry = Geometry(chance.randrange(9, 22))
     version = chance.choice([2, 3, 3])
@@ -81,7 +81,7 @@ def random_entries(chance, count, cluster_bits, version, first_data):
 
 
 def write_checkered_image(path, clusters):
-    """Writes an image whose refcounts have 1 bit, and say of every second cluster that it is used. Nothing uses it."""
+    """Writes an image with refcounts of 1 bit, which are 1 for every second cluster, so that most of these leak."""
     geometry = Geometry(9, 0)
     cluster_size, blocks = geometry.cluster_size, -(-clusters // geometry.block_refcounts)
     header = Header(
@@ -102,7 +102,7 @@ def write_checkered_image(path, clusters):
 
 
 def write_counted_image(path, geometry, l1_size, named, l2_entries, host_clusters):
-    """Writes a consistent image. L1 entries of the indices `named` name its L2 tables, which have these entries.
+    """Writes a consistent image. Its L1 entries `named` name its L2 tables, which have these entries.
 
     `host_clusters` is the number of clusters up to the last that an entry refers to. The refcount table and its
     blocks follow, and each cluster has one reference.
@@ -134,7 +134,7 @@ def cluster_after_l1(geometry, l1_size):
 
 
 def refcounts_after(geometry, host_clusters):
-    """The first block, after that many clusters and a refcount table, and the end of the blocks that count all."""
+    """The first block, after that many clusters and a refcount table, and the end of the blocks, which count all."""
     first_block = host_clusters
     while True:
         blocks = -(-first_block // (geometry.block_refcounts - 1))
@@ -145,7 +145,7 @@ def refcounts_after(geometry, host_clusters):
 
 
 def write_mixed_image(path):
-    """Writes an image with 2^21 mixed entries, and returns how many there are of each kind."""
+    """Writes an image with 2^21 mixed entries, and returns the number of each kind."""
     chance = random.Random("mixed entries")
     kinds = chance.choices(["data", "zero", "compressed", "none"], k=MIXED_TABLES * USUAL.table_entries)
     host_cluster = cluster_after_l1(USUAL, MIXED_TABLES) + MIXED_TABLES
@@ -160,7 +160,7 @@ def write_mixed_image(path):
 
 
 def write_row_image(path, geometry, size, is_sparse=False):
-    """Writes an image of a disk of that size: all of it is data, in a row, or the first cluster of each L2 table."""
+    """Writes an image of a disk of that size, with data in a row: all of it, or the first cluster of each L2 table."""
     tables = size // geometry.mapped_by_table
     first = cluster_after_l1(geometry, tables) + tables
     entries = array("Q", bytes(ENTRY_SIZE * tables * geometry.table_entries))

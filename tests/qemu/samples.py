@@ -6,8 +6,8 @@ from typing import NamedTuple
 from .image import BACKING_FORMAT, Image
 from .tools import create_image, fill_image, take_snapshot
 
-# What befell a guest cluster, as commands of qemu-io. Zeros have a host cluster where data was there or the
-# image is preallocated, but those of `hole` have none.
+# The histories of guest clusters, as commands of qemu-io. Zeros have a host cluster if data was there or the image is
+# preallocated, but those of `hole` have none.
 HISTORIES = {
     "none": [],
     "data": ["write"],
@@ -21,12 +21,12 @@ HISTORIES = {
 }
 PLAIN = "none data part zero kept hole discarded"
 
-# Guest data is written from files: so much of a cluster can't be compressed, and the rest are zeros.
+# Guest data comes from files: this share of a cluster is random bytes, and the rest are zeros.
 PATTERNS = (0.0, 0.3, 0.8)
 
 
 class Sample(NamedTuple):
-    """An image to be made: its options and size, what befalls its clusters, and what else is done to it."""
+    """An image to make: its options and size, the histories of its clusters, and further changes."""
 
     name: str
     options: str
@@ -37,7 +37,7 @@ class Sample(NamedTuple):
 
     @property
     def is_external(self):
-        """Whether the guest's data lies in a file of its own."""
+        """Whether guest data lies in an external data file."""
         return "data_file=" in self.options
 
     @property
@@ -82,7 +82,7 @@ SAMPLES = [
     Sample("backed-5", "backing_file=base.qcow2,backing_fmt=qcow2", "2M", forgets_format=True),
     Sample("backed-6", "backing_file=base.raw,backing_fmt=raw,compat=0.10", "64M"),
     Sample("backed-7", "backing_file=base.qcow2,backing_fmt=qcow2,compat=0.10", "64M", forgets_format=True),
-    # guest data in a file of its own, which holds nothing compressed
+    # an external data file, which has no compressed data
     Sample("external-1", "data_file=external-1.data", "1G", PLAIN),
     Sample("external-2", "data_file=external-2.data,data_file_raw=on", "10M", PLAIN),
     Sample("external-3", "data_file=external-3.data,cluster_size=4k,refcount_bits=1", "5M", PLAIN),
@@ -95,7 +95,7 @@ SAMPLES = [
 
 
 def make_backing_files(folder):
-    """Makes the files that samples refer to."""
+    """Makes the backing files of the samples."""
     for name in ("base.raw", "bäse.raw"):
         create_image(folder / name, "2M", image_format="raw")
         fill_image(folder / name, ["write -P 7 64k 1M"], image_format="raw")
@@ -127,26 +127,26 @@ def make_sample(sample, folder):
 
 
 def pattern(number, length):
-    """The bytes of a pattern, which are written to each third guest cluster."""
+    """The bytes of a pattern, one for every third guest cluster."""
     rough = int(PATTERNS[number] * length)
     return random.Random(f"pattern-{number}").randbytes(rough) + bytes(length - rough)
 
 
 def written_pattern(header, cluster):
-    """The bytes of a pattern that are written to a guest cluster. Past the disk's end they are zeros."""
+    """The bytes of a guest cluster after a write of its pattern, zeros past the disk's end."""
     written = pattern(cluster % len(PATTERNS), header.cluster_size)
     return written[: header.size - cluster * header.cluster_size].ljust(header.cluster_size, b"\0")
 
 
 def touched_clusters(header):
-    """Runs of guest clusters at the start, where the first L2 table ends, amid the disk and at its end."""
+    """Runs of guest clusters at the start, at the end of the first L2 table, a third into the disk and at its end."""
     count = header.guest_clusters
     starts = (0, header.table_entries - 9, count // 3, count - 20)
     return sorted({cluster for start in starts for cluster in range(max(start, 0), min(start + 20, count))})
 
 
 def command(header, word, cluster):
-    """The command of qemu-io for what befalls a guest cluster, within which the disk may end."""
+    """The command of qemu-io for a step in a guest cluster's history. The disk may end within the cluster."""
     start = cluster * header.cluster_size
     length = min(header.cluster_size, header.size - start)
     if word == "write part":
@@ -156,9 +156,9 @@ def command(header, word, cluster):
 
 
 def forget_format(path):
-    """Gives the header extension with the backing file's format a type that nobody knows.
+    """Gives the header extension with the backing file's format an unknown type.
 
-    qemu-img makes no image without a backing file's format any more, but there are such images.
+    qemu-img no longer makes an image with a backing file and without its format, but such images exist.
     """
     with open(path, "r+b") as file:
         file.seek(file.read(512).index(BACKING_FORMAT))

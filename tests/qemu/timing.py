@@ -1,4 +1,4 @@
-"""How long programs take, and how much memory."""
+"""Measures the time and the memory of programs."""
 
 import ctypes
 import os
@@ -7,27 +7,27 @@ import sys
 import time
 from typing import NamedTuple
 
-# Prints the number of a process that becomes the program once standard input ends.
+# Prints the ID of a process that becomes the program after a line, or the end, of standard input.
 STARTER = 'exec 3<&0; { read -r _; exec "$@"; } <&3 >/dev/null & echo $!'
 
 # The same with the program's output in a file, and with a limit of processor time, in seconds.
 LIMITED_STARTER = 'ulimit -t "$1"; output=$2; shift 2; exec 3<&0; { read -r _; exec "$@"; } <&3 >"$output" 2>&1 & echo $!'
 
-# How many bytes of output are read at once.
+# The bytes of output that are read at once.
 PIECE = 1 << 20
 
-# Linux's request that this process becomes the parent of programs whose parent ended.
+# Linux's request that this process becomes the parent of descendants whose parent ended.
 PR_SET_CHILD_SUBREAPER = 36
 
 
 def wait_for_orphans():
-    """Lets this process wait for programs that a shell started, as `peak_memory` does."""
+    """Lets this process wait for programs that a shell started, as `peak_memory` and `run_limited` do."""
     if ctypes.CDLL(None, use_errno=True).prctl(PR_SET_CHILD_SUBREAPER, 1, 0, 0, 0) != 0:
         sys.exit("this process can't wait for programs that a shell started")
 
 
 def seconds(words):
-    """How long a program takes, in seconds."""
+    """The elapsed time of a program, in seconds."""
     start = time.perf_counter()
     subprocess.run(words, stdout=subprocess.DEVNULL, check=True)
     return time.perf_counter() - start
@@ -36,8 +36,8 @@ def seconds(words):
 def peak_memory(words):
     """The peak memory of a program in KiB.
 
-    The kernel counts to it what the process had before it became the program. So a shell, which has less than
-    this process, starts the program and ends. This process becomes its parent then, and lets it begin.
+    The kernel includes the memory of the process before it became the program. So a shell, which has less than this
+    process, starts the program and ends. Then this process becomes the program's parent, and lets it begin.
     """
     pipes = {"stdin": subprocess.PIPE, "stdout": subprocess.PIPE}
     with subprocess.Popen(["sh", "-c", STARTER, "sh", *words], **pipes) as shell:
@@ -50,7 +50,7 @@ def peak_memory(words):
 
 
 class Run(NamedTuple):
-    """How a program ran: user and system time, peak memory in KiB, bytes printed, and its status, below 0 by a signal."""
+    """A run of a program: user and system time, peak memory in KiB, bytes printed, and status, below 0 by a signal."""
 
     seconds: float
     memory: int
@@ -59,7 +59,7 @@ class Run(NamedTuple):
 
     @property
     def was_ended(self):
-        """Whether a signal ended it, as the limit's does."""
+        """Whether a signal ended the program, such as that of the limit."""
         return self.status < 0
 
 
@@ -87,7 +87,7 @@ def nothing():
 def measure(works, rounds, prepare=nothing):
     """Prints the least time of each work and its memory, and returns them. Each round runs all works once.
 
-    What a run needs is prepared before its time begins.
+    `prepare` runs before each run, outside the measured time.
     """
 
     def prepared(run, words):

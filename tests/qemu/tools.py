@@ -1,4 +1,4 @@
-"""Running QEMU's tools and `qmeta`, and the arguments and folders that commands share."""
+"""Runs QEMU's tools and `qmeta`, and has the arguments and folders that scripts share."""
 
 import argparse
 import json
@@ -16,10 +16,10 @@ QMETA = ROOT / "crates/qmeta/out/qmeta"
 # The statuses of `qemu-img check`: no error, corruptions, leaks.
 CHECK_STATUSES = (0, 2, 3)
 
-# The members of its object that count what is wrong, all 0 in an image without an error.
+# The members of its JSON object that count findings, all 0 in a consistent image.
 CLEAN = {"leaks": 0, "corruptions": 0, "check-errors": 0}
 
-# How many characters of a failed command are shown, and of what it printed last.
+# The most characters shown of a failed command, and of the end of its output.
 MOST_SHOWN = 400
 
 
@@ -27,38 +27,38 @@ MOST_SHOWN = 400
 
 
 def argument_parser(description):
-    """A parser of a command's arguments, of which the first is the built program."""
+    """A parser of a script's arguments, of which the first is the built program."""
     parser = argparse.ArgumentParser(description=description)
     parser.add_argument("qmeta", nargs="?", type=Path, default=QMETA, help="the built program")
     return parser
 
 
 def add_jobs(parser):
-    """Adds the option of how many images are tried at once."""
+    """Adds the option for the number of images that are tried at once."""
     parser.add_argument("--jobs", type=int, default=os.cpu_count(), help="how many images are tried at once")
 
 
 def missing_programs(*programs):
-    """Those of the programs that aren't there."""
+    """The programs that are missing."""
     return [str(program) for program in programs if shutil.which(program) is None]
 
 
 def stop_without(*programs):
-    """Ends the command with status 2 where one of the programs is missing, which it says."""
+    """Ends the script with status 2 if a program is missing, and names the first one."""
     for program in missing_programs(*programs):
         print(f"{program} is missing", file=sys.stderr)
         sys.exit(2)
 
 
 def temporary_folder(in_memory=False):
-    """A temporary folder. It lies in memory where that can be, if its images are written again and again."""
+    """A temporary folder, in memory if asked for and possible: for images that are written again and again."""
     memory = Path("/dev/shm")
     return tempfile.TemporaryDirectory(dir=memory if in_memory and os.access(memory, os.W_OK) else None)
 
 
 @contextmanager
 def copy_sparse(path):
-    """A copy of an image, whose holes are holes. It is removed at the end."""
+    """A sparse copy of an image, removed at the end."""
     copy = path.with_suffix(".copy")
     subprocess.run(["cp", "--sparse=always", path, copy], check=True)
     try:
@@ -68,7 +68,7 @@ def copy_sparse(path):
 
 
 def remove_image(path):
-    """Removes an image, and all files that have its name with another suffix."""
+    """Removes an image, and all files of its name with another suffix."""
     for file in path.parent.glob("*"):
         if file.stem == path.stem:
             file.unlink()
@@ -78,13 +78,13 @@ def remove_image(path):
 
 
 class ToolFailed(Exception):
-    """A program ended with a status that it shouldn't have, or did what isn't understood."""
+    """A program ended with an unexpected status, or made a system call that the tests don't understand."""
 
 
 def run(words, folder, statuses=(0,), **options):
-    """Runs a program in a folder, and returns how it ended, with what it printed.
+    """Runs a program in a folder, and returns its status and output.
 
-    The status must be one of these, or any where there is none. The options are those of `subprocess.run`.
+    The status must be one of `statuses`, or any if that is empty. The options are those of `subprocess.run`.
     """
     ended = subprocess.run(words, cwd=folder, capture_output=True, encoding="utf-8", **options)
     if statuses and ended.returncode not in statuses:
@@ -94,7 +94,7 @@ def run(words, folder, statuses=(0,), **options):
 
 
 def qmeta_output(qmeta, path, command, *words):
-    """What `qmeta` prints for a command on an image, and its status where that isn't 0."""
+    """The output of a command of `qmeta` on an image, with standard error, and its status if that isn't 0."""
     ended = run([qmeta, command, path.name, *map(str, words)], path.parent, ())
     status = f"status {ended.returncode}\n" if ended.returncode else ""
     return ended.stdout + ended.stderr + status
@@ -107,7 +107,7 @@ def create_image(path, size, options="", image_format="qcow2"):
 
 
 def fill_image(path, commands, image_format="qcow2"):
-    """Runs commands of qemu-io on an image, whose writes needn't be waited for."""
+    """Runs commands of qemu-io on an image, without syncs to the device."""
     text = "".join(f"{command}\n" for command in commands)
     run(["qemu-io", "-t", "unsafe", "-f", image_format, path.name], path.parent, input=text)
 
@@ -118,11 +118,11 @@ def take_snapshot(path, name):
 
 
 def qemu_img_json(path, command, statuses=(0,)):
-    """What a command of qemu-img prints of an image in JSON."""
+    """The JSON output of a command of qemu-img on an image."""
     return run(["qemu-img", command, "--output=json", "-f", "qcow2", path.name], path.parent, statuses).stdout
 
 
 def qemu_check_counts(path):
-    """What `qemu-img check` counts: leaks, corruptions, and errors of the check itself."""
+    """The numbers of `qemu-img check`: leaks, corruptions, and errors of the check itself."""
     members = json.loads(qemu_img_json(path, "check", CHECK_STATUSES))
     return {name: members.get(name, 0) for name in CLEAN}

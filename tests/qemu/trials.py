@@ -1,4 +1,4 @@
-"""Trials: what is found and what must be, of several images at once."""
+"""Trials: comparisons of several images at once with predictions."""
 
 from collections import Counter
 from multiprocessing import Pool
@@ -7,36 +7,36 @@ from typing import NamedTuple
 from .image import Refused
 from .tools import ToolFailed, remove_image
 
-# How many things that aren't as they must be are printed of an image.
+# The most problems printed of an image.
 MOST_PRINTED = 20
 
-# How many characters a trial shows of a value that it found or expected.
+# The most characters that a trial shows of a found or expected value.
 MOST_SHOWN = 300
 
 
 class Problems(list):
-    """What isn't as it must be, in words. They show at most that many characters of a value."""
+    """Differences from predictions, in words. They show at most `most_shown` characters of a value."""
 
     def __init__(self, most_shown=None):
         super().__init__()
         self.most_shown = most_shown
 
     def same(self, what, found, expected):
-        """Adds a problem where what was found isn't what was expected."""
+        """Adds a problem if the found and the expected value differ."""
         if found != expected:
             self.append(f"{what}: found {self.shown(found)}, expected {self.shown(expected)}")
 
     def shown(self, value):
-        """A value as it is shown."""
+        """A value in the form that problems show."""
         return repr(value)[: self.most_shown]
 
     def same_items(self, what, found, expected):
-        """Compares two dictionaries, by the keys whose values aren't the same."""
+        """Compares two dictionaries. A problem names the first keys whose values differ."""
         apart = sorted(key for key in found.keys() | expected.keys() if found.get(key) != expected.get(key))
         self.same(f"{what} {apart[:5]}", [found.get(key) for key in apart], [expected.get(key) for key in apart])
 
     def print_first(self, before):
-        """Prints the first of them, each after some words, and how many more there are."""
+        """Prints the first problems, each after some words, and the number of the others."""
         for problem in self[:MOST_PRINTED]:
             print(f"{before}{problem}", flush=True)
         if len(self) > MOST_PRINTED:
@@ -44,7 +44,7 @@ class Problems(list):
 
 
 class Outcome(NamedTuple):
-    """How a trial ended: what its image is, what wasn't as it must be, and what was counted."""
+    """The result of a trial: the name of its image, its problems, and its counts."""
 
     name: str
     problems: Problems
@@ -52,7 +52,7 @@ class Outcome(NamedTuple):
 
 
 class Trial:
-    """An image of a kind at a path, and what is tried with it. `attempt` makes it and tries all."""
+    """A trial of an image of a kind at a path. `attempt` makes the image and tries all."""
 
     def __init__(self, kind, path, qmeta):
         self.kind, self.path, self.qmeta = kind, path, qmeta
@@ -63,7 +63,7 @@ class Trial:
         raise NotImplementedError
 
     def outcome(self):
-        """How the trial ended. Its files are removed then."""
+        """Runs the trial, removes its files, and returns its result."""
         try:
             self.attempt()
         except (ToolFailed, Refused) as failure:
