@@ -16,6 +16,19 @@ pub fn load_block<S: Storage>(
     RefBlock::load(alloc, image, header, cluster)
 }
 
+/// `RefBlock::load_counter`.
+pub fn load_counter<S: Storage>(
+    image: &mut S,
+    header: &Header,
+    cluster: HostCluster,
+    index: usize,
+) -> Result<u64, Fault> {
+    if index >= header.rb_entries() {
+        return Err(NOT_MADE);
+    }
+    RefBlock::load_counter(image, header, cluster, index)
+}
+
 /// `RefBlock::reload`.
 pub fn reload_block<S: Storage>(
     block: &mut RefBlock,

@@ -9,8 +9,8 @@ mod headers;
 mod tables;
 
 pub use blocks::{
-    decrement, increment, load_block, new_block, reload_block, set_block_cluster, set_counter,
-    write_block, write_block_changes, write_block_if_modified,
+    decrement, increment, load_block, load_counter, new_block, reload_block, set_block_cluster,
+    set_counter, write_block, write_block_changes, write_block_if_modified,
 };
 pub use headers::{
     header_of, into_writable, load_header, new_header, update_header, write_header,

@@ -14,6 +14,7 @@ ghost use Rattle.qcow2_metadata.specs.Refblock.{IsBlockFault, IsValidBlock, bloc
 mod bytes;
 mod counters;
 mod guard;
+mod one_counter;
 mod packing;
 
 use crate::Header;

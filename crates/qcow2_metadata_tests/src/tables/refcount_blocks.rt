@@ -5,12 +5,13 @@ use super::fixtures::{DISK, NUMBER, loaded, table_with};
 use super::pending_clusters::{Entered, check_entered, pending_of};
 use qcow2_base::{Fault, HostCluster, HostOffset, MemStorage};
 use qcow2_calls::{
-    decrement, enter_refblock, increment, set_counter, write_block, write_block_if_modified,
+    decrement, enter_refblock, header_of, increment, load_counter, set_counter, write_block,
+    write_block_if_modified,
 };
 use qcow2_metadata::{RefBlock, RefTable};
 use qcow2_testing::{
-    FailingStorage, each, filled_image, image_with as numbers_image, part_of, put_bytes, recorded,
-    rows, same, same_bytes, same_image,
+    FailingStorage, StorageCall, each, filled_image, image_with as numbers_image, part_of,
+    put_bytes, recorded, rows, same, same_bytes, same_image,
 };
 use std::alloc::Global;
 use std::test::Fail;
@@ -344,4 +345,64 @@ fn a_block_is_entered_by_its_offset_alone(rt: HostRuntime) -> Result<(), Fail> {
         check_entering(&mut table, &mut new_cleared(rt.alloc(), 4)?, *row)?;
     }
     Ok(())
+}
+
+// A refcount of the block at cluster 1, given by its index; the offset and number of its bytes in the block,
+// their value, and the refcount.
+#[derive(Clone, Copy, Debug)]
+struct Alone {
+    order: u32,
+    index: usize,
+    place: u64,
+    len: usize,
+    bytes: u64,
+    counter: u64,
+}
+
+const ALONE: &[Alone] = rows! { Alone:
+    { order: 0, index: 0, place: 0, len: 1, bytes: 0xfe, counter: 0 },
+    { order: 0, index: 9, place: 1, len: 1, bytes: 2, counter: 1 },
+    { order: 0, index: 4095, place: 511, len: 1, bytes: 0x80, counter: 1 },
+    { order: 1, index: 2, place: 0, len: 1, bytes: 0xef, counter: 2 },
+    { order: 1, index: 2047, place: 511, len: 1, bytes: 0x7f, counter: 1 },
+    { order: 2, index: 3, place: 1, len: 1, bytes: 0x5a, counter: 5 },
+    { order: 2, index: 1022, place: 511, len: 1, bytes: 0x5a, counter: 10 },
+    { order: 3, index: 511, place: 511, len: 1, bytes: 0xfe, counter: 254 },
+    { order: 4, index: 255, place: 510, len: 2, bytes: 0x0102, counter: 258 },
+    { order: 5, index: 127, place: 508, len: 4, bytes: 0x0102_0304, counter: 0x0102_0304 },
+    { order: 6, index: 63, place: 504, len: 8, bytes: LESS, counter: LESS },
+    { order: 6, index: 1, place: 8, len: 8, bytes: 0, counter: 0 },
+};
+
+fn check_alone(alloc: Global, row: Alone) -> Result<(), Fail> {
+    let mut image = recorded(alloc, image_with(alloc, row.place, row.len, row.bytes)?);
+    let header = header_of(alloc, 9, row.order, false)?;
+    let found = load_counter(&mut image, &header, HostCluster(1), row.index)?;
+    same(found, row.counter, row)?;
+    let read = StorageCall::Read {
+        offset: row.place.saturating_add(512),
+        len: row.len,
+    };
+    same(image.calls.as_slice(), &[read], row)
+}
+
+#[test]
+fn a_refcount_alone_is_read_by_its_bytes(rt: HostRuntime) -> Result<(), Fail> {
+    each(rt.alloc(), ALONE, check_alone)
+}
+
+#[test]
+fn a_refcount_of_a_block_past_the_greatest_end_is_refused(rt: HostRuntime) -> Result<(), Fail> {
+    let alloc = rt.alloc();
+    let mut image = recorded(alloc, filled_image(alloc, 1536)?);
+    let header = header_of(alloc, 9, 4, false)?;
+    let found = load_counter(&mut image, &header, HostCluster(1 << 47), 0);
+    same(
+        (found, image.calls.len()),
+        (Err(Fault::TablePlace), 0),
+        "past 2^56",
+    )?;
+    image.plan = Some(0);
+    let found = load_counter(&mut image, &header, HostCluster(1), 0);
+    same(found, Err(Fault::Storage), "a failed read")
 }
