@@ -122,21 +122,22 @@ kept_counter_after header reftable image block b c k named place kept within =
     let index : (c + k) % n ≡ c % n + k = omega (arith, parts) in
     kept_counter header reftable image block b (c + k) named same kept ∙ rw index refl
 
--- several clusters that the kept block counts, where all these counters are 1
-pub kept_ones : (header : HeaderRecord) (reftable : List ℕ) (image : Image) (kept : Option BlockState) (block : BlockState) (c count : ℕ)
+-- so the counters of the kept block are those of the clusters from its first one on
+pub block_counters : (header : HeaderRecord) (reftable : List ℕ) (image : Image) (kept : Option BlockState) (block : BlockState) (c : ℕ)
     → kept ≡ Some block → IsSomeAnd block.cluster (λ place. block_of_cluster header reftable c ≡ Some place)
-    → IsKeptBlockOf header image kept → c % counters_each header + count ≤ counters_each header
-    → ((k : ℕ) → k < count → slice_index block.numbers (c % counters_each header + k) ≡ 1)
-    → (k : ℕ) → k < count → counter_of header reftable image (c + k) ≡ 1
-kept_ones header reftable image kept block c count is names same within ones k below = by_place block.cluster refl
+    → IsKeptBlockOf header image kept → c % counters_each header ≡ 0
+    → (k : ℕ) → k < counters_each header → counter_of header reftable image (c + k) ≡ slice_index block.numbers k
+block_counters header reftable image kept block c is names same start k below = by_place block.cluster refl
   where
-    by_place : (place : Option HostCluster) → block.cluster ≡ place → counter_of header reftable image (c + k) ≡ 1
+    by_place : (place : Option HostCluster) → block.cluster ≡ place → counter_of header reftable image (c + k) ≡ slice_index block.numbers k
     by_place None none =
         let never : IsSomeAnd {T = HostCluster} None (λ place. block_of_cluster header reftable c ≡ Some place) = rw none at names in
         absurd never
     by_place (Some b) some =
         let named : block_of_cluster header reftable c ≡ Some b = rw some at names in
-        kept_counter_after header reftable image block b c k some named (rw is at same) (omega (arith, within, below)) ∙ ones k below
+        let index : c % counters_each header + k ≡ k = omega (arith, start) in
+        let within : c % counters_each header + k < counters_each header = omega (arith, start, below) in
+        rw index at (kept_counter_after header reftable image block b c k some named (rw is at same) within)
 
 -- clusters from the start of those that one block counts have the same block
 quotient_before : (n cluster c : ℕ) → 0 < n → cluster - cluster % n ≤ c → c ≤ cluster → c / n ≡ cluster / n

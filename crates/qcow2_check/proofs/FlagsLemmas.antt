@@ -11,10 +11,11 @@ use Rattle.qcow2_metadata.specs.Header.{Geometry, HeaderRecord, geometry, geomet
 use Rattle.qcow2_metadata.specs.Results.{Answers}
 use Rattle.qcow2_metadata.specs.Table.{IsContentFault, TableState, l2_entries, loaded_l2_table}
 use Rattle.qcow2_check.specs.Findings.{IsLaterFault}
-use Rattle.qcow2_check.specs.Counters.{CountersState, IsKeptBlockOf, IsSameButBlock, counter_of}
+use Rattle.qcow2_check.specs.Counters.{CountersState, counter_of}
 use Rattle.qcow2_check.specs.Flags.{HasNoFlag, flagged_cluster, l2_flag, l2_flags, l2_flags_from}
 use Rattle.qcow2_metadata.specs.Entries.{is_copied, offset_field}
 use Rattle.qcow2_check.specs.NamedTables.{named_cluster}
+use Rattle.qcow2_check.specs.Soles.{AreSoles, IsMarked}
 use Rattle.qcow2_check.specs.Uses.{all_load, l1_entry_loads}
 
 -- the offset of each guest cluster that an L1 table of the most entries leads to fits 64 bits
@@ -70,46 +71,39 @@ no_flag g counter guest = by_file g.external_data_file refl
     by_file true is = grind (arith, nat_tests, is)
     by_file false is = grind (arith, nat_tests, is)
 
--- an entry 0 has none in whatever image
-pub nothing_has_no_flag : (g : Geometry) (counters : CountersState) → HasNoFlag g counters 0
-nothing_has_no_flag g counters = λ image guest kept. no_flag g (counter_of counters.header counters.reftable image) guest
+-- an entry 0 has none by whatever counters
+pub nothing_has_no_flag : (g : Geometry) (marks : List ℕ) → HasNoFlag g marks 0
+nothing_has_no_flag g marks = λ counter guest soles. no_flag g counter guest
 
--- a standard entry has none whose cluster has the counter 1, if it says so
-pub sole_is_right : (g : Geometry) (counters : CountersState) (v : ℕ) → g.external_data_file ≡ false → is_copied v ≡ true
-    → ((image : Image) → IsKeptBlockOf counters.header image counters.block
-    → counter_of counters.header counters.reftable image (offset_field v / 2 ^ g.cluster_bits) ≡ 1)
-    → HasNoFlag g counters v
-sole_is_right g counters v inside copied sole = λ image guest kept. grind (arith, nat_tests, inside, copied, sole image kept)
+-- a standard entry has none whose cluster is marked, if it says so
+pub sole_is_right : (g : Geometry) (marks : List ℕ) (v : ℕ) → g.external_data_file ≡ false → is_copied v ≡ true
+    → IsMarked marks (offset_field v / 2 ^ g.cluster_bits) → HasNoFlag g marks v
+sole_is_right g marks v inside copied marked = λ counter guest soles. grind (arith, nat_tests, inside, copied, soles _ marked)
 
 -- an entry without a cluster has none either
-pub other_is_right : (g : Geometry) (counters : CountersState) (v : ℕ) → flagged_cluster g v ≡ None → HasNoFlag g counters v
-other_is_right g counters v none = λ image guest kept. grind (arith, nat_tests, none)
+pub other_is_right : (g : Geometry) (marks : List ℕ) (v : ℕ) → flagged_cluster g v ≡ None → HasNoFlag g marks v
+other_is_right g marks v none = λ counter guest soles. grind (arith, nat_tests, none)
 
 -- where several entries have none, the same are left after them
-no_flags : (g : Geometry) (counters : CountersState) (image : Image) (index : ℕ) (numbers : List ℕ) (i k : ℕ) → i + k ≤ length numbers
-    → IsKeptBlockOf counters.header image counters.block
-    → ((j : ℕ) → j < k → HasNoFlag g counters (slice_index numbers (i + j)))
-    → l2_flags_from g (counter_of counters.header counters.reftable image) index numbers i
-    ≡ l2_flags_from g (counter_of counters.header counters.reftable image) index numbers (i + k)
-no_flags g counters image index numbers i zero within kept none = rw (add-zero i) refl
-no_flags g counters image index numbers i (suc k) within kept none =
+no_flags : (g : Geometry) (marks : List ℕ) (counter : ℕ → ℕ) (index : ℕ) (numbers : List ℕ) (i k : ℕ) → i + k ≤ length numbers
+    → AreSoles counter marks → ((j : ℕ) → j < k → HasNoFlag g marks (slice_index numbers (i + j)))
+    → l2_flags_from g counter index numbers i ≡ l2_flags_from g counter index numbers (i + k)
+no_flags g marks counter index numbers i zero within soles none = rw (add-zero i) refl
+no_flags g marks counter index numbers i (suc k) within soles none =
     let guest = index * l2_entries g.cluster_bits + (i + k) in
-    let counter = counter_of counters.header counters.reftable image in
     let sum : i + suc k ≡ i + k + 1 = omega arith in
-    let last : l2_flag g counter guest (slice_index numbers (i + k)) ≡ None = none k (omega arith) image guest kept in
-    no_flags g counters image index numbers i k (omega (arith, within)) kept (λ j below. none j (omega (arith, below)))
+    let last : l2_flag g counter guest (slice_index numbers (i + k)) ≡ None = none k (omega arith) counter guest soles in
+    no_flags g marks counter index numbers i k (omega (arith, within)) soles (λ j below. none j (omega (arith, below)))
     ∙ flags_here g counter index numbers (i + k) (omega (arith, within)) ∙ rw (last, sum) refl
 
--- the same of a reader whose counters are those of an image
-pub group_has_no_flags : (g : Geometry) (state : StorageState) (old counters : CountersState) (index : ℕ) (numbers : List ℕ) (i k : ℕ)
-    → IsSameButBlock state old counters → i + k ≤ length numbers
-    → ((j : ℕ) → j < k → HasNoFlag g counters (slice_index numbers (i + j)))
-    → OnImage state (λ bytes. l2_flags_from g (counter_of old.header old.reftable bytes) index numbers i
-    ≡ l2_flags_from g (counter_of old.header old.reftable bytes) index numbers (i + k))
-group_has_no_flags g state old counters index numbers i k reader within none = λ told.
-    let header : counters.header ≡ old.header = ap (λ c. c.header) reader.same in
-    let reftable : counters.reftable ≡ old.reftable = ap (λ c. c.reftable) reader.same in
-    rw (← header, ← reftable) (no_flags g counters state.byte_at index numbers i k within (reader.kept told) none)
+-- the same by the counters of an image
+pub group_has_no_flags : (g : Geometry) (state : StorageState) (counters : CountersState) (marks : List ℕ) (index : ℕ) (numbers : List ℕ) (i k : ℕ)
+    → OnImage state (λ bytes. AreSoles (counter_of counters.header counters.reftable bytes) marks) → i + k ≤ length numbers
+    → ((j : ℕ) → j < k → HasNoFlag g marks (slice_index numbers (i + j)))
+    → OnImage state (λ bytes. l2_flags_from g (counter_of counters.header counters.reftable bytes) index numbers i
+    ≡ l2_flags_from g (counter_of counters.header counters.reftable bytes) index numbers (i + k))
+group_has_no_flags g state counters marks index numbers i k soles within none = λ told.
+    no_flags g marks (counter_of counters.header counters.reftable state.byte_at) index numbers i k within (soles told) none
 
 -- the entry of a table after some that are copied ones of clusters that follow one another, if it is the next of them
 pub copied_more : (numbers : List ℕ) (first cb start k cluster : ℕ) (before copied : Bool)

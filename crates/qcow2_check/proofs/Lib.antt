@@ -5,8 +5,10 @@ pub mod FileEndLemmas
 pub mod FindingsLemmas
 pub mod FindingsListLemmas
 pub mod FlagsLemmas
+pub mod GroupsLemmas
 pub mod NamedTablesLemmas
 pub mod SinkLemmas
+pub mod SolesLemmas
 pub mod TallyLemmas
 pub mod TotalsLemmas
 pub mod UsesLemmas

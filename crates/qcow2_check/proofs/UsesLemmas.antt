@@ -7,6 +7,7 @@ use Rattle.std.proofs.Math.Nat.{div-div-eq-div-mul, mod-eq_of_lt}
 use Rattle.qcow2_metadata.specs.Entries.{offset_field}
 use Rattle.qcow2_base.specs.Bits.{field}
 use Rattle.qcow2_base.specs.Format.{max_file_length}
+use Rattle.qcow2_base.specs.Types.{IsClusterBits}
 use Rattle.qcow2_metadata.specs.Entries.L2Entry.{allocation, compressed_length, compressed_offset, is_compressed, l2_fault}
 use Rattle.qcow2_metadata.specs.declared.entries.ClustersToFreeEntry.{ClustersToFreeEntry}
 use Rattle.std.specs.Prelude.{is_some}
@@ -120,8 +121,15 @@ standard_ends cb v clusters low standard valid refers =
     let last = one_cluster cb (offset_field v) (standard_aligned cb v standard valid) in
     grind (arith, nat_tests, standard, refers, first, last)
 
+-- and that it refers to, where it isn't the header's
+pub standard_cluster : (cb v c : ℕ) → IsClusterBits cb → is_compressed v ≡ false → l2_fault cb v ≡ None → offset_field v / 2 ^ cb ≡ c → 0 < c
+    → allocation (geometry cb false) v ≡ Some (record { first = record { 0 = c }; count = record { 0 = 1 } })
+standard_cluster cb v c bits standard valid at some =
+    let last = one_cluster cb (offset_field v) (standard_aligned cb v standard valid) in
+    grind (arith, nat_tests, standard, last, at, some)
+
 -- an entry that refers to one cluster uses that
-single_use : (cb v first : ℕ) (clusters : ClustersToFreeEntry) → allocation (geometry cb false) v ≡ Some clusters → clusters.first.0 ≡ first → clusters.count.0 ≡ 1
+pub single_use : (cb v first : ℕ) (clusters : ClustersToFreeEntry) → allocation (geometry cb false) v ≡ Some clusters → clusters.first.0 ≡ first → clusters.count.0 ≡ 1
     → entry_uses (geometry cb false) v ≡ used_clusters Guest (record { 0 = first }) 1 ∷ []
 single_use cb v first clusters refers at one = grind (arith, nat_tests, refers, at, one)
 

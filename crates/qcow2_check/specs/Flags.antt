@@ -10,6 +10,7 @@ use Rattle.qcow2_metadata.specs.Placed.{numbers_at}
 use Rattle.qcow2_metadata.specs.Table.{TableState, l2_entries, l2_layout}
 use Rattle.qcow2_check.specs.Counters.{CountersState, IsKeptBlockOf, counter_of}
 use Rattle.qcow2_check.specs.NamedTables.{named_cluster}
+use Rattle.qcow2_check.specs.Soles.{AreSoles}
 use Rattle.qcow2_check.specs.Uses.{ImageTables, all_load}
 use Rattle.qcow2_check.specs.declared.flags.FlagPlace.{FlagPlace}
 use Rattle.qcow2_check.specs.declared.flags.FlagPlace.TheVariants.{L1Index, Offset}
@@ -52,10 +53,9 @@ l2_flag g counter guest v = elim (flagged_cluster g v) [
   | Some cluster ↦ wrong_flag (Offset (record { 0 = guest * 2 ^ g.cluster_bits })) cluster (data_counter g counter cluster) (is_copied v)
 ]
 
--- an entry of an L2 table has no wrong flag in an image that counters are of, of whatever guest cluster it is
-abbrev pub HasNoFlag : Geometry → CountersState → ℕ → Type 0
-HasNoFlag g counters v = (image : Image) (guest : ℕ) → IsKeptBlockOf counters.header image counters.block →
-    l2_flag g (counter_of counters.header counters.reftable image) guest v ≡ None
+-- an entry of an L2 table has no wrong flag by counters that marks agree with, of whatever guest cluster it is
+abbrev pub HasNoFlag : Geometry → List ℕ → ℕ → Type 0
+HasNoFlag g soles v = (counter : ℕ → ℕ) (guest : ℕ) → AreSoles counter soles → l2_flag g counter guest v ≡ None
 
 -- the wrong flags of L2 entries, from a guest cluster on
 abbrev pub l2_flags : Geometry → (ℕ → ℕ) → ℕ → List ℕ → List WrongFlag
@@ -85,12 +85,14 @@ l1_flags header reftable image index (v ∷ vs) = option_to_list (l1_flag header
 abbrev pub image_flags : ImageTables → Image → List WrongFlag
 image_flags tables image = l1_flags tables.header tables.reftable image 0 tables.l1
 
--- what a reader of flags has: the image's header, its L1 table and its counters, the index of the L1 entry that it has come
--- to, and where that entry's flag was looked at, the L2 table that it names and the index of the entry there
+-- what a reader of flags has: the image's header, its L1 table and its counters, marks of the clusters whose counter is 1, the
+-- index of the L1 entry that it has come to, and where that entry's flag was looked at, the L2 table that it names and the
+-- index of the entry there
 pub record FlagsState : Type 0 where
   pub header : HeaderRecord
   pub l1 : List ℕ
   pub counters : CountersState
+  pub soles : List ℕ
   pub index : ℕ
   pub table : Option TableState
   pub position : ℕ
@@ -117,9 +119,11 @@ flag_steps reader = let each = l2_entries reader.header.v2.cluster_bits + 2 in e
   | Some table ↦ (length reader.l1 - (reader.index + 1)) * each + (length table.numbers - reader.position + 1)
 ]
 
--- a reader of flags reads this image: the block that it keeps is the same as there, and all L2 tables can be loaded
+-- a reader of flags reads this image: the block that it keeps is the same as there, as are the counters that it marks, and
+-- all L2 tables can be loaded
 pub record IsFlagsOf (image : Image) (reader : FlagsState) : Type 0 where
   pub kept : IsKeptBlockOf reader.header image reader.counters.block
+  pub soles : AreSoles (counter_of reader.header reader.counters.reftable image) reader.soles
   pub loads : all_load (geometry_of reader.header) reader.l1 image ≡ Ok (tt {0})
 
 -- a reader of flags reads the same tables as before

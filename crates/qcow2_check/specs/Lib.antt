@@ -3,9 +3,11 @@ pub mod Failures
 pub mod FileEnd
 pub mod Findings
 pub mod Flags
+pub mod Groups
 pub mod ImageTables
 pub mod L1Length
 pub mod NamedTables
+pub mod Soles
 pub mod Tally
 pub mod Totals
 pub mod Uses

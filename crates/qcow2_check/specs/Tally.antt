@@ -1,6 +1,6 @@
 -- How are the uses of clusters counted, in memory of a bounded size?
 pub mod Cells
-use Rattle.std.specs.Prelude.{◌≡◌, ℕ, Bool, ◌==◌, ◌&&◌, ◌||◌, ◌+◌, ◌-◌, ◌/◌, ◌%◌, ◌<◌, ◌≤◌, nat_lt, if◌then◌else◌, List, length, slice_index, Option, IsSome, unwrap_or}
+use Rattle.std.specs.Prelude.{◌≡◌, ℕ, Bool, ◌==◌, ◌&&◌, ◌||◌, ◌+◌, ◌-◌, ◌/◌, ◌%◌, ◌<◌, ◌≤◌, nat_lt, if◌then◌else◌, List, flat_map, length, slice_index, take, Option, IsSome, unwrap_or}
 use Rattle.std.specs.Ordering.{nat_cmp}
 use Rattle.std.specs.BTreeMap.{is_at}
 use Rattle.std.specs.List.{fold}
@@ -71,6 +71,11 @@ pub record CountsMore (uses : List ClusterUse) (old new : TallyState) : Type 0 w
   pub first : new.first ≡ old.first
   pub end : new.end ≤ old.end
   pub cells : (c : ℕ) → old.first ≤ c → c < new.end → cell_at new c ≡ fold (cell_with c) (cell_at old c) uses
+
+-- a tally that counted what the elements of a list before an index use, and then counts what 16 more do
+abbrev pub CountsGroup : (ℕ → List ClusterUse) → List ℕ → ℕ → TallyState → TallyState → Type 0
+CountsGroup uses numbers index old new = (start : TallyState) → CountsMore (flat_map uses (take index numbers)) start old
+    → CountsMore (flat_map uses (take (index + 16) numbers)) start new
 
 -- whether a cell has the mark of a kind
 abbrev pub has_mark : TallyKind → ℕ → Bool

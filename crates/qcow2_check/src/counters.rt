@@ -10,12 +10,15 @@ ghost use Rattle.qcow2_metadata.specs.Results.{Reads};
 ghost use Rattle.qcow2_check.specs.Counters.{IsCountedEnd, IsKeptBlockOf, IsReftableFault, IsSameButBlock, block_of_cluster, block_place_fault, blocks_fault, numbers_of_kept};
 ghost use Rattle.qcow2_check.specs.NamedTables.{reftable_cluster, reftable_layout};
 
-use crate::counting::TOGETHER;
 use crate::named_tables::{load_reftable, named_block};
 use qcow2_base::{Fault, HostCluster, MAX_FILE_LENGTH, Storage};
 use qcow2_metadata::{Header, RefBlock, RefTable, Table};
 use std::alloc::Global;
 use std::marker::Model;
+
+// The bytes of a block whose load costs about as much as reading one refcount alone. A block is cached once
+// the refcounts that were read alone cost as much as it.
+const BYTES_EACH: usize = 4096;
 
 /// A reader of an image's refcounts. It holds the refcount table and caches at most one refcount block.
 /// Contracts see the header, the table's entries and the cached block.
@@ -26,6 +29,8 @@ pub struct Counters<'a> {
     block: Option<RefBlock>,
     // The index of the refcount table entry that names the cached block.
     kept_index: usize,
+    // The number of refcounts that were read alone since a block was cached.
+    alone: usize,
 }
 
 impl<'a> Model for Counters<'a> {
@@ -145,21 +150,6 @@ fn keep_block<S: Storage>(
     }
 }
 
-// Whether `count` refcounts of a block, from an index on, are all 1. Reads each, so that the compiler can
-// compare several at once.
-#[inline(always)]
-fn are_one(block: &RefBlock, index: usize, count: usize) -> bool
-    requires { index + count ≤ length block.now.numbers }
-    ensures { IsTrue result ↔ ((k : ℕ) → k < count → slice_index block.now.numbers (index + k) ≡ 1) }
-{
-    prove!(index <= block.entries());
-    let mut are_one = true;
-    for k in 0..count {
-        are_one &= block.get(index + k) == 1;
-    }
-    are_one
-}
-
 /// Returns the first cluster after all those that the named refcount blocks count, or 0 if the refcount table
 /// names no block.
 #[tactic(auto, using(crate::proofs::CountersLemmas::ends_of_blocks))]
@@ -206,6 +196,7 @@ impl<'a> Counters<'a> {
             reftable,
             block: None,
             kept_index: 0,
+            alone: 0,
         })
     }
 
@@ -231,54 +222,6 @@ impl<'a> Counters<'a> {
     {
         let block = self.block.as_ref()?;
         (cluster.rt_index(self.header.rb_bits()) == self.kept_index).then_some(block)
-    }
-
-    /// The cached block's refcounts at the indices of some clusters: theirs if the block counts them. 0 if no
-    /// block is cached. The loop does nothing else, so that the width of the refcounts is tested once.
-    #[inline(always)]
-    pub(crate) fn kept_at(&self, clusters: &[u64; TOGETHER]) -> [u64; TOGETHER]
-        ensures { IfSome self.now.block (λ block. (k : ℕ) → k < 16 → slice_index result k
-            ≡ slice_index block.numbers (slice_index clusters.now k % counters_each self.now.header)) }
-    {
-        let mut counters = [0; TOGETHER];
-        let Some(block) = &self.block else {
-            return counters;
-        };
-        let rb_bits = self.header.rb_bits();
-        for k in 0..TOGETHER {
-            let index = HostCluster(clusters[k]).rb_index(rb_bits);
-            prove!(index < block.entries());
-            counters[k] = block.get(index);
-        }
-        counters
-    }
-
-    /// Whether the cached block counts a cluster and its refcount is 1. `kept` is what `kept_at` returned for
-    /// the cluster. Doesn't branch on `kept`.
-    #[inline(always)]
-    #[tactic(auto, using(crate::proofs::CountersLemmas::kept_counter))]
-    pub(crate) fn is_kept_sole(&self, cluster: HostCluster, kept: u64) -> bool
-        requires { IfSome self.now.block (λ block.
-            kept ≡ slice_index block.numbers (cluster.0 % counters_each self.now.header)) }
-        ensures { IsTrue result → (image : Image) → IsKeptBlockOf self.now.header image self.now.block →
-            counter_of self.now.header self.now.reftable image cluster.0 ≡ 1 }
-    {
-        let table_index = cluster.rt_index(self.header.rb_bits());
-        self.block.is_some() & (table_index == self.kept_index) & (kept == 1)
-    }
-
-    /// Whether the cached block counts `count` clusters from `first` on, and all their refcounts are 1.
-    #[inline(always)]
-    pub(crate) fn are_kept_sole(&self, first: HostCluster, count: usize) -> bool
-        ensures { IsTrue result → (image : Image) → IsKeptBlockOf self.now.header image self.now.block →
-            (k : ℕ) → k < count → counter_of self.now.header self.now.reftable image (first.0 + k) ≡ 1 }
-    {
-        let Some(block) = self.kept_for(first) else {
-            return false;
-        };
-        let index = first.rb_index(self.header.rb_bits());
-        prove!(index < block.entries());
-        block.entries() - index >= count && are_one(block, index, count)
     }
 
     /// Whether the refcount table names a block for a cluster.
@@ -357,6 +300,8 @@ impl<'a> Counters<'a> {
     }
 
     /// Returns the refcount of a cluster: 0 if the refcount table names no block for it or ends before it.
+    /// For clusters in any order: unless the block is cached, it reads this refcount alone, and caches a
+    /// block only after many such reads.
     ///
     /// Fails if the storage fails or memory runs out, and can be called again then. The image must be the one
     /// that the reader was made for, unchanged since. Changes no byte.
@@ -374,10 +319,55 @@ impl<'a> Counters<'a> {
             prove!(index < block.entries());
             return Ok(block.get(index));
         }
+        self.get_uncached(image, cluster)
+    }
+
+    /// As `get`, for clusters in order: caches the block of each.
+    #[inline]
+    #[tactic(auto, using(crate::proofs::CountersLemmas::kept_counter))]
+    pub fn get_in_order<S: Storage>(
+        &mut self,
+        image: &mut S,
+        cluster: HostCluster,
+    ) -> Result<u64, Fault>
+        requires { OnImage (S.state image.old) (λ bytes. IsKeptBlockOf self.old.header bytes self.old.block) }
+        ensures reads { Reads (λ counter. counter) result
+            (λ bytes. Ok (counter_of self.old.header self.old.reftable bytes cluster.0))
+            (λ _. ⊥) (S.state image.old) (S.state image.new) }
+        ensures reader { IsSameButBlock (S.state image.old) self.old self.new }
+    {
+        if let Some(block) = self.kept_for(cluster) {
+            let index = cluster.rb_index(self.header.rb_bits());
+            prove!(index < block.entries());
+            return Ok(block.get(index));
+        }
         self.load(image, cluster)
     }
 
     // `get` for a cluster whose block isn't cached.
+    fn get_uncached<S: Storage>(
+        &mut self,
+        image: &mut S,
+        cluster: HostCluster,
+    ) -> Result<u64, Fault>
+        requires { OnImage (S.state image.old) (λ bytes. IsKeptBlockOf self.old.header bytes self.old.block) }
+        ensures reads { Reads (λ counter. counter) result
+            (λ bytes. Ok (counter_of self.old.header self.old.reftable bytes cluster.0))
+            (λ _. ⊥) (S.state image.old) (S.state image.new) }
+        ensures reader { IsSameButBlock (S.state image.old) self.old self.new }
+    {
+        let Some(place) = self.block_of(cluster) else {
+            return Ok(0);
+        };
+        if self.alone >= self.header.cluster_size() / BYTES_EACH {
+            return self.load(image, cluster);
+        }
+        self.alone += 1;
+        let index = cluster.rb_index(self.header.rb_bits());
+        RefBlock::load_counter(image, self.header, place, index)
+    }
+
+    // Returns the refcount of a cluster whose block isn't cached, and caches the block.
     fn load<S: Storage>(&mut self, image: &mut S, cluster: HostCluster) -> Result<u64, Fault>
         requires { OnImage (S.state image.old) (λ bytes. IsKeptBlockOf self.old.header bytes self.old.block) }
         ensures reads { Reads (λ counter. counter) result
@@ -392,6 +382,7 @@ impl<'a> Counters<'a> {
         keep_block(&mut self.block, image, self.header, alloc, place)?;
         let (table_index, index) = cluster.rt_rb_indices(self.header.rb_bits());
         self.kept_index = table_index;
+        self.alone = 0;
         let block = self.block.as_ref().unwrap();
         prove!(index < block.entries());
         Ok(block.get(index))

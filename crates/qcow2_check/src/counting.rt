@@ -11,10 +11,11 @@ ghost use Rattle.qcow2_base.specs.Types.{IsClusterBits};
 ghost use Rattle.qcow2_metadata.specs.Header.{geometry, geometry_of};
 ghost use Rattle.qcow2_metadata.specs.Results.{Reads};
 ghost use Rattle.qcow2_metadata.specs.Table.{IsEntryFault};
-ghost use Rattle.qcow2_check.specs.Tally.{CountsMore, used_clusters};
+ghost use Rattle.qcow2_check.specs.Tally.{CountsGroup, CountsMore, used_clusters};
 ghost use Rattle.qcow2_check.specs.Uses.{all_load, entry_uses, image_uses};
 ghost use Rattle.qcow2_check.specs.Walk.{counted_use, tally_kind};
 
+use crate::groups::{TOGETHER, are_unallocated, entry_at, row_at};
 use crate::image_tables::ImageTables;
 use crate::named_tables::named_cluster;
 use crate::tally::{Tally, TallyKind};
@@ -23,9 +24,6 @@ use crate::uses::{Use, UseKind};
 use crate::walk::walk_uses;
 use qcow2_base::{ClusterCount, Fault, HostCluster, Storage, field};
 use qcow2_metadata::{L2Entry, L2Table, Table, TableEntry};
-
-// The number of L2 entries that are tested as one group.
-pub(crate) const TOGETHER: usize = 16;
 
 // Counts one reference to each of `count` clusters from `first` on.
 #[tactic(auto, using(crate::proofs::TallyLemmas::counts_next))]
@@ -109,28 +107,24 @@ fn count_single(tally: &mut Tally, entry: L2Entry, cluster_bits: u32) -> bool
     tally.try_add_if(first, TallyKind::Guest, refers(entry))
 }
 
-/// The entry at an index within the table, without a bounds check in the built program.
+// Counts the clusters that the `TOGETHER` entries from an index on refer to, if they are all 0 or a row.
+// Returns false and changes nothing if they aren't, or if `Tally::add_group` can't count them.
 #[inline(always)]
-pub(crate) fn entry_at(table: &L2Table, index: usize) -> L2Entry
-    requires { index < length table.now.numbers }
-    ensures number { result ≡ slice_index table.now.numbers index }
-    ensures valid { l2_fault table.now.geometry.cluster_bits result ≡ None }
+fn count_group(tally: &mut Tally, table: &L2Table, index: usize) -> bool
+    requires group { index + 16 ≤ length table.now.numbers }
+    requires inside { table.now.geometry.external_data_file ≡ false }
+    ensures counted { IsTrue result → CountsGroup (entry_uses table.now.geometry) table.now.numbers index
+        tally.old tally.new }
+    ensures same { result ≡ false → tally.new ≡ tally.old }
 {
-    table.get_ref(index).unwrap().get()
-}
-
-/// Whether the `TOGETHER` entries from an index on are all 0.
-#[inline(always)]
-pub(crate) fn are_unallocated(table: &L2Table, first: usize) -> bool
-    requires { first + 16 ≤ length table.now.numbers }
-    ensures { IsTrue result → (k : ℕ) → k < 16 → slice_index table.now.numbers (first + k) ≡ 0 }
-{
-    prove!(first < table.entries());
-    let mut unallocated = true;
-    for k in 0..TOGETHER {
-        unallocated &= entry_at(table, first + k).to_plain() == 0;
+    if are_unallocated(table, index) {
+        return true;
     }
-    unallocated
+    prove!(table.cluster_bits() > 0);
+    match row_at(table, index) {
+        Some(start) => tally.add_group(start.0),
+        None => false,
+    }
 }
 
 // Counts the clusters that the entries of an L2 table refer to.
@@ -146,7 +140,8 @@ fn count_entries(tally: &mut Tally, table: &L2Table) -> Result<(), Fault>
     let (cluster_bits, entries) = (table.cluster_bits(), table.entries());
     let mut index = 0;
     while index < entries {
-        if index % TOGETHER == 0 && entries - index >= TOGETHER && are_unallocated(table, index) {
+        let is_group = index % TOGETHER == 0 && entries - index >= TOGETHER;
+        if is_group && count_group(tally, table, index) {
             index += TOGETHER;
         } else {
             let entry = entry_at(table, index);

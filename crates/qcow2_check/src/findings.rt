@@ -166,7 +166,7 @@ fn is_right(counter: u64, cell: u64) -> bool
 }
 
 impl<'a> Findings<'a> {
-    ghost use Rattle.std.specs.Prelude.{◌≡◌, ◌<◌, ◌≤◌, Ok, Err, None, Some, false, IfErr, IfOk, IfSome, IsSome, IsSomeAnd, IsTrue, OnOk, is_some, length, ◌+◌, ◌↔◌};
+    ghost use Rattle.std.specs.Prelude.{◌≡◌, ◌<◌, ◌≤◌, [], Ok, Err, None, Some, false, IfErr, IfOk, IfSome, IsSome, IsSomeAnd, IsTrue, OnOk, is_some, length, ◌+◌, ◌↔◌};
     ghost use Rattle.qcow2_base.specs.Format.{max_file_length, most_l1_entries, most_reftable_entries};
     ghost use Rattle.qcow2_base.specs.Storage.{Image, OnImage, OnlyReads};
     ghost use Rattle.qcow2_check.specs.Counters.{block_of_cluster, blocks_fault, counter_of};
@@ -243,6 +243,7 @@ impl<'a> Findings<'a> {
           header = self.entry.header;
           l1 = self.entry.l1;
           counters = self.entry.counters;
+          soles = [];
           index = 0;
           table = None;
           position = 0;
@@ -299,7 +300,7 @@ impl<'a> Findings<'a> {
             × (self.new.position ≡ self.old.position) × (self.new.tally ≡ self.old.tally) }
         ensures storage { OnlyReads result (S.state image.old) (S.state image.new) }
     {
-        let counter = self.counters.get(image, HostCluster(cluster))?;
+        let counter = self.counters.get_in_order(image, HostCluster(cluster))?;
         let cell = self.tally.as_ref().unwrap().cell(cluster);
         Ok(Finding {
             cluster: HostCluster(cluster),

@@ -8,12 +8,14 @@ ghost use Rattle.qcow2_metadata.specs.Entries.{is_copied, offset_field};
 ghost use Rattle.qcow2_metadata.specs.Header.{geometry};
 ghost use Rattle.qcow2_metadata.specs.Results.{IsFromOutside, Reads};
 ghost use Rattle.qcow2_metadata.specs.Table.{l2_entries};
-ghost use Rattle.qcow2_check.specs.Counters.{IsKeptBlockOf, IsSameButBlock, counter_of, counters_each};
+ghost use Rattle.qcow2_check.specs.Counters.{IsKeptBlockOf, IsSameButBlock, counter_of};
 ghost use Rattle.qcow2_check.specs.Flags.{HasNoFlag, TakesFlag, data_counter, flagged_cluster, l2_flag, l2_flags_from, wrong_flag};
+ghost use Rattle.qcow2_check.specs.Soles.{AreSoles};
 
 use crate::counters::Counters;
-use crate::counting::{TOGETHER, are_unallocated, entry_at};
+use crate::groups::{TOGETHER, are_unallocated, cluster_at, entry_at, row_at};
 use crate::named_tables::{load_l2_table, named_cluster};
+use crate::soles::Soles;
 use qcow2_base::{Fault, GuestCluster, GuestOffset, HostCluster, HostOffset, Storage, field};
 use qcow2_metadata::{Header, L1Table, L2Entry, L2Table, Table, TableEntry};
 use std::marker::Model;
@@ -41,13 +43,17 @@ pub struct WrongFlag {
 }
 
 /// A reader of an image's wrong copied flags, one after another: in the order of L1 entries, each followed by
-/// the flags of its L2 table. It holds the L1 table, the refcount table, a refcount block and an L2 table.
-/// Contracts see these and the entry that the reader has reached.
+/// the flags of its L2 table. It holds the L1 table, the refcount table, a refcount block, an L2 table, and a
+/// mark for each cluster whose refcount is known to be 1. Contracts see these and the entry that the reader
+/// has reached.
 #[derive(Drop)]
 pub struct Flags<'a> {
     header: &'a Header,
     l1_table: L1Table,
     counters: Counters<'a>,
+    soles: Soles,
+    // Whether the clusters are marked.
+    is_marked: bool,
     index: usize,
     table: Option<L2Table>,
     position: usize,
@@ -66,6 +72,7 @@ impl<'a> Model for Flags<'a> {
       header = f.header.now;
       l1 = f.l1_table.numbers;
       counters = f.counters;
+      soles = f.soles;
       index = f.index;
       table = f.table;
       position = f.position;
@@ -176,112 +183,59 @@ fn entry_flag<S: Storage>(
     Ok(wrong_flag(place, cluster, counter, entry.is_copied()))
 }
 
-// The cluster at the offset of a standard entry.
-#[inline(always)]
-fn cluster_at(entry: L2Entry, cluster_bits: u32) -> HostCluster
-    requires { IsClusterBits cluster_bits }
-    ensures cluster { result.0 ≡ offset_field entry / 2 ^ cluster_bits }
-    ensures fits { result.0 < 2 ^ 56 }
-{
-    HostOffset(field(entry.to_plain(), 9, 47) * 512).cluster(cluster_bits)
-}
-
-// The clusters at the offsets of the `TOGETHER` entries from an index on, as if all were standard entries.
-#[inline(always)]
-fn clusters_at(table: &L2Table, first: usize) -> [u64; TOGETHER]
-    requires { first + 16 ≤ length table.now.numbers }
-    ensures { (k : ℕ) → k < 16 → slice_index result k
-        ≡ offset_field (slice_index table.now.numbers (first + k)) / 2 ^ table.now.geometry.cluster_bits }
-{
-    prove!(first < table.entries());
-    let cluster_bits = table.cluster_bits();
-    let mut clusters = [0; TOGETHER];
-    for k in 0..TOGETHER {
-        clusters[k] = cluster_at(entry_at(table, first + k), cluster_bits).0;
-    }
-    clusters
-}
-
 // Whether an entry is compressed or names no cluster, or its copied flag is set and its cluster's refcount is
-// 1 by the cached block. `kept` is the block's refcount at the index of the cluster.
+// known to be 1.
 #[inline(always)]
 #[tactic(auto, using(crate::proofs::FlagsLemmas::sole_is_right, crate::proofs::FlagsLemmas::other_is_right))]
-fn is_right(counters: &Counters<'_>, entry: L2Entry, cluster_bits: u32, kept: u64) -> bool
-    requires bits { IsClusterBits cluster_bits }
-    requires kept { IfSome counters.now.block (λ block. kept ≡ slice_index block.numbers
-        (offset_field entry / 2 ^ cluster_bits % counters_each counters.now.header)) }
-    ensures { IsTrue result → HasNoFlag (geometry cluster_bits false) counters.now entry }
+fn is_right(soles: &Soles, entry: L2Entry, cluster_bits: u32) -> bool
+    requires { IsClusterBits cluster_bits }
+    ensures { IsTrue result → HasNoFlag (geometry cluster_bits false) soles.now entry }
 {
     let has_none = entry.is_compressed() | (field(entry.to_plain(), 9, 47) == 0);
-    let is_sole = counters.is_kept_sole(cluster_at(entry, cluster_bits), kept);
+    let is_sole = soles.has(cluster_at(entry, cluster_bits));
     has_none | (entry.is_copied() & is_sole)
 }
 
 // Whether `is_right` holds for the `TOGETHER` entries from an index on. Tests all of them, since the
 // processor couldn't predict a branch.
 #[inline(always)]
-fn are_right(counters: &Counters<'_>, table: &L2Table, first: usize) -> bool
+fn are_right(soles: &Soles, table: &L2Table, first: usize) -> bool
     requires group { first + 16 ≤ length table.now.numbers }
     ensures { IsTrue result → table.now.geometry.external_data_file ≡ false → (k : ℕ) → k < 16 →
-        HasNoFlag table.now.geometry counters.now (slice_index table.now.numbers (first + k)) }
+        HasNoFlag table.now.geometry soles.now (slice_index table.now.numbers (first + k)) }
 {
     prove!(first < table.entries());
     let cluster_bits = table.cluster_bits();
-    let kept = counters.kept_at(&clusters_at(table, first));
     let mut right = true;
     for k in 0..TOGETHER {
-        right &= is_right(counters, entry_at(table, first + k), cluster_bits, kept[k]);
+        right &= is_right(soles, entry_at(table, first + k), cluster_bits);
     }
     right
 }
 
-// Whether the `TOGETHER` entries from an index on all have the copied flag and name consecutive clusters,
-// from this one on.
-#[inline(always)]
-fn are_copied_from(table: &L2Table, first: usize, start: HostCluster) -> bool
-    requires group { first + 16 ≤ length table.now.numbers }
-    requires start { start.0 < 2 ^ 56 }
-    ensures { IsTrue result → (k : ℕ) → k < 16 → let v = slice_index table.now.numbers (first + k) in
-        (is_copied v ≡ true) × (offset_field v / 2 ^ table.now.geometry.cluster_bits ≡ start.0 + k) }
-{
-    prove!(first < table.entries());
-    let cluster_bits = table.cluster_bits();
-    let mut in_a_row = true;
-    for k in 0..TOGETHER {
-        let entry = entry_at(table, first + k);
-        let is_next = cluster_at(entry, cluster_bits).0 == start.0 + k as u64;
-        in_a_row &= entry.is_copied() & is_next;
-    }
-    in_a_row
-}
-
-// `are_right` for entries that name consecutive clusters.
+// Whether the `TOGETHER` entries from an index on are a row whose clusters are all marked.
 #[inline(always)]
 #[tactic(auto, using(crate::proofs::FlagsLemmas::sole_is_right))]
-fn are_right_in_a_row(counters: &Counters<'_>, table: &L2Table, first: usize) -> bool
+fn is_right_row(soles: &Soles, table: &L2Table, first: usize) -> bool
     requires group { first + 16 ≤ length table.now.numbers }
     ensures { IsTrue result → table.now.geometry.external_data_file ≡ false → (k : ℕ) → k < 16 →
-        HasNoFlag table.now.geometry counters.now (slice_index table.now.numbers (first + k)) }
+        HasNoFlag table.now.geometry soles.now (slice_index table.now.numbers (first + k)) }
 {
-    prove!(first < table.entries());
-    let cluster_bits = table.cluster_bits();
-    let start = cluster_at(entry_at(table, first), cluster_bits);
-    let last = cluster_at(entry_at(table, first + 15), cluster_bits);
-    // Usually the last entry alone shows whether they are consecutive.
-    last.0 == start.0 + 15
-        && are_copied_from(table, first, start)
-        && counters.are_kept_sole(start, TOGETHER)
+    match row_at(table, first) {
+        Some(start) => soles.has_whole(start),
+        None => false,
+    }
 }
 
 // Whether the entry at an index begins a group of `TOGETHER` entries whose copied flags are all right. May
-// return false for right ones, as when their refcounts aren't in the cached block.
+// return false for right ones, as when their refcounts aren't marked.
 #[inline]
 #[tactic(auto, using(crate::proofs::FlagsLemmas::nothing_has_no_flag))]
-fn starts_right(counters: &Counters<'_>, table: &L2Table, index: usize) -> bool
+fn starts_right(soles: &Soles, table: &L2Table, index: usize) -> bool
     requires index { index < length table.now.numbers }
     ensures { IsTrue result → (index + 16 ≤ length table.now.numbers)
         × ((k : ℕ) → k < 16 →
-        HasNoFlag table.now.geometry counters.now (slice_index table.now.numbers (index + k))) }
+        HasNoFlag table.now.geometry soles.now (slice_index table.now.numbers (index + k))) }
 {
     if index % TOGETHER != 0 || table.entries() - index < TOGETHER {
         return false;
@@ -290,13 +244,14 @@ fn starts_right(counters: &Counters<'_>, table: &L2Table, index: usize) -> bool
         return true;
     }
     !table.external_data_file()
-        && (are_right_in_a_row(counters, table, index) || are_right(counters, table, index))
+        && (is_right_row(soles, table, index) || are_right(soles, table, index))
 }
 
 // The next wrong flag in an L2 table, from the entry at `position` on. Moves `position` past its entry, or to
 // the table's end.
 fn next_in_table<S: Storage>(
     counters: &mut Counters<'_>,
+    soles: &Soles,
     image: &mut S,
     table: &L2Table,
     l1_index: usize,
@@ -306,6 +261,8 @@ fn next_in_table<S: Storage>(
     requires l1_index { l1_index < most_l1_entries }
     requires reader { OnImage (S.state image.old) (λ bytes.
         IsKeptBlockOf counters.old.header bytes counters.old.block) }
+    requires soles { OnImage (S.state image.old) (λ bytes.
+        AreSoles (counter_of counters.old.header counters.old.reftable bytes) soles.now) }
     ensures flag { OnImage (S.state image.old) (λ bytes.
         let counter = counter_of counters.old.header counters.old.reftable bytes in
         let left = l2_flags_from table.now.geometry counter l1_index table.now.numbers in
@@ -318,7 +275,7 @@ fn next_in_table<S: Storage>(
 {
     let entries = table.entries();
     while *position < entries {
-        if starts_right(counters, table, *position) {
+        if starts_right(soles, table, *position) {
             *position += TOGETHER;
         } else {
             let found = entry_flag(counters, image, table, l1_index, *position)?;
@@ -332,7 +289,7 @@ fn next_in_table<S: Storage>(
 }
 
 impl<'a> Flags<'a> {
-    ghost use Rattle.std.specs.Prelude.{◌≡◌, ◌<◌, ◌≤◌, None, IfErr, IsSome, length};
+    ghost use Rattle.std.specs.Prelude.{◌≡◌, ◌<◌, ◌≤◌, [], None, IfErr, IsSome, length};
     ghost use Rattle.qcow2_base.specs.Format.{most_l1_entries};
     ghost use Rattle.qcow2_base.specs.Storage.{OnImage, OnlyReads};
     ghost use Rattle.qcow2_metadata.specs.Header.{geometry_of};
@@ -349,15 +306,19 @@ impl<'a> Flags<'a> {
           header = header.now;
           l1 = l1_table.numbers;
           counters = counters.entry;
+          soles = [];
           index = 0;
           table = None;
           position = 0;
         } }
     {
+        let soles = Soles::none(l1_table.allocator());
         Flags {
             header,
             l1_table,
             counters,
+            soles,
+            is_marked: false,
             index: 0,
             table: None,
             position: 0,
@@ -377,6 +338,7 @@ impl<'a> Flags<'a> {
         ensures fault { IfErr result (IsLaterFault (S.state image.old)) }
         ensures storage { OnlyReads result (S.state image.old) (S.state image.new) }
     {
+        self.mark_soles(image)?;
         while self.index < self.l1_table.entries() {
             if let Some(flag) = self.step(image)? {
                 return Ok(Some(flag));
@@ -390,6 +352,25 @@ impl<'a> Flags<'a> {
         ensures { result ≡ self.entry.counters }
     {
         self.counters
+    }
+
+    // Marks the clusters whose refcount is 1, unless they are marked.
+    fn mark_soles<S: Storage>(&mut self, image: &mut S) -> Result<(), Fault>
+        requires reader { OnImage (S.state image.old) (λ bytes. IsFlagsOf bytes self.old) }
+        ensures same { self.new ≡ record self.old {
+          counters = self.new.counters;
+          soles = self.new.soles;
+        } }
+        ensures reader { MovesFlags (S.state image.old) self.old self.new }
+        ensures fault { IfErr result IsFromOutside }
+        ensures storage { OnlyReads result (S.state image.old) (S.state image.new) }
+    {
+        if !self.is_marked {
+            let alloc = self.l1_table.allocator();
+            self.soles = Soles::load(alloc, image, &mut self.counters)?;
+            self.is_marked = true;
+        }
+        Ok(())
     }
 
     // Opens the L2 table of the reader's L1 entry, or goes on within it if it is open.
@@ -425,6 +406,7 @@ impl<'a> Flags<'a> {
         let table = self.table.as_ref().unwrap();
         let found = next_in_table(
             &mut self.counters,
+            &self.soles,
             image,
             table,
             self.index,

@@ -4,6 +4,7 @@ ghost use Rattle.std.specs.Prelude.{◌≡◌, ℕ, ◌+◌, ◌-◌, ◌/◌, �
 ghost use Rattle.qcow2_base.specs.Format.{max_file_length};
 ghost use Rattle.qcow2_base.specs.declared.fault.Fault.TheVariants.{NoMemory};
 ghost use Rattle.qcow2_check.specs.Tally.{CountsMore, IsPlain, cell_at, is_shared_cell, mark_of, used_clusters, with_use};
+ghost use Rattle.qcow2_check.specs.declared.tally.TallyKind.TheVariants.{Guest};
 
 mod cells;
 
@@ -214,6 +215,17 @@ impl Tally {
             || !is_used
             || cluster < self.first
             || cluster >= self.end
+    }
+
+    /// Counts a reference by guest data to each of `TOGETHER` clusters from `first` on. Returns false and
+    /// changes nothing if one of them has no narrow dense cell, or its count may not fit.
+    #[inline]
+    pub(crate) fn add_group(&mut self, first: u64) -> bool
+        ensures counted { IsTrue result → CountsMore
+            (used_clusters Guest (record { 0 = first }) 16 ∷ []) self.old self.new }
+        ensures same { result ≡ false → self.new ≡ self.old }
+    {
+        first >= self.first && self.dense.add_group((first - self.first) as usize)
     }
 
     /// Counts a reference to a cluster, unless the cluster lies outside the tally. If the map then has too

@@ -131,7 +131,8 @@ impl Windows {
         let mut tally = Tally::new(alloc, first, dense, most, is_wide)?;
         count_image(&mut tally, image, tables)?;
         prove!(first < tally.end());
-        self.is_sparse |= tally.used() < MOST_SPARSE;
+        // Counting the cells takes long, so do it only if there are later windows.
+        self.is_sparse |= tally.end() < MAX_FILE_LENGTH && tally.used() < MOST_SPARSE;
         Ok(tally)
     }
 }

@@ -1,9 +1,11 @@
-//! The refcounts in an image's own refcount blocks.
+//! The refcounts in an image's own refcount blocks, and how often the blocks are read.
 
-use crate::readers::counters_of;
+use crate::readers::{counters_of, flags_of};
 use crate::sample_image::sample_image;
+use qcow2_base::{Fault, MemStorage};
+use qcow2_testing::damages::{FoundFlag, FoundPlace};
 use qcow2_testing::sample_image::{BLOCK, REFTABLE};
-use qcow2_testing::{Numbers, each, rows, same};
+use qcow2_testing::{FailingStorage, Numbers, each, image_with, put_all, recorded, rows, same};
 use std::alloc::Global;
 use std::test::Fail;
 
@@ -38,4 +40,84 @@ fn check_counted(alloc: Global, row: Counted<'_>) -> Result<(), Fail> {
 #[test]
 fn a_counter_is_that_of_its_block_or_0(rt: HostRuntime) -> Result<(), Fail> {
     each(rt.alloc(), COUNTED, check_counted)
+}
+
+// The offsets of two refcount blocks in clusters of 64 KiB, and one in each that only a read of the whole
+// block reaches.
+const BLOCKS: [u64; 2] = [0x3_0000, 0x4_0000];
+
+const INNER: [u64; 2] = [0x3_2000, 0x4_2000];
+
+const COPIED: u64 = 1 << 63;
+
+// An image with these blocks, whose eight L2 entries name clusters of both in turn. All refcounts are 1.
+const IN_TURN: Numbers<'static> = &[
+    (0, 0x5146_49fb_0000_0003),
+    (16, 16),
+    (24, 8 << 16),
+    (32, 1),
+    (40, 0x1_0000),
+    (48, 0x2_0000),
+    (56, 1 << 32),
+    (96, 0x0000_0004_0000_0068),
+    (0x1_0000, COPIED | 0x5_0000),
+    (0x2_0000, BLOCKS[0]),
+    (0x2_0008, BLOCKS[1]),
+    (BLOCKS[0], 0x0001_0001_0001_0001),
+    (BLOCKS[0] + 8, 0x0001_0001_0001_0001),
+    (BLOCKS[0] + 16, 0x0001_0001_0000_0000),
+    (BLOCKS[1], 0x0001_0001_0001_0001),
+    (0x5_0000, COPIED | 6 << 16),
+    (0x5_0008, COPIED | 32768 << 16),
+    (0x5_0010, COPIED | 7 << 16),
+    (0x5_0018, COPIED | 32769 << 16),
+    (0x5_0020, COPIED | 8 << 16),
+    (0x5_0028, COPIED | 32770 << 16),
+    (0x5_0030, COPIED | 9 << 16),
+    (0x5_0038, COPIED | 32771 << 16),
+];
+
+fn image_in_turn(alloc: Global, changes: Numbers<'_>) -> Result<FailingStorage<MemStorage>, Fault> {
+    let mut image = image_with(alloc, 0x6_0000, IN_TURN)?;
+    put_all(&mut image, changes)?;
+    Ok(recorded(alloc, image))
+}
+
+fn reads_of_blocks(image: &FailingStorage<MemStorage>) -> [usize; 2] {
+    [image.reads_of(INNER[0]), image.reads_of(INNER[1])]
+}
+
+#[test]
+fn refcounts_of_blocks_in_turn_are_read_alone(rt: HostRuntime) -> Result<(), Fail> {
+    let changes = [
+        (BLOCKS[0], 0x0001_0002_0003_0004),
+        (BLOCKS[1], 0x0005_0006_0007_0008),
+    ];
+    let mut image = image_in_turn(rt.alloc(), &changes)?;
+    let clusters = [0, 32768, 1, 32769, 2, 32770, 3, 32771];
+    let found = counters_of(rt.alloc(), &mut image, &clusters)?;
+    same(found.as_slice(), &[1, 5, 2, 6, 3, 7, 4, 8], "in turn")?;
+    same(reads_of_blocks(&image), [0, 0], "whole blocks")
+}
+
+#[test]
+fn many_refcounts_of_a_block_read_it_once(rt: HostRuntime) -> Result<(), Fail> {
+    let mut image = image_in_turn(rt.alloc(), &[])?;
+    let found = counters_of(rt.alloc(), &mut image, &[6; 40])?;
+    same(found.as_slice(), &[1; 40], "one cluster")?;
+    same(reads_of_blocks(&image), [1, 0], "whole blocks")
+}
+
+#[test]
+fn copied_flags_of_blocks_in_turn_read_each_block_once(rt: HostRuntime) -> Result<(), Fail> {
+    let mut image = image_in_turn(rt.alloc(), &[(0x5_0018, 32769 << 16)])?;
+    let found = flags_of(rt.alloc(), &mut image)?;
+    let late = FoundFlag {
+        place: FoundPlace::Offset(3 << 16),
+        cluster: 32769,
+        counter: Some(1),
+        is_set: false,
+    };
+    same(found.as_slice(), &[late], "flags")?;
+    same(reads_of_blocks(&image), [1, 1], "whole blocks")
 }

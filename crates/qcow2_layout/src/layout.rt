@@ -213,7 +213,7 @@ impl<'a> Layout<'a> {
             let end = limit.min(most_clusters(self.header));
             return Ok((Part::Free, window.next_used(from + 1, end)));
         }
-        let counter = self.counters.get(image, HostCluster(from))?;
+        let counter = self.counters.get_in_order(image, HostCluster(from))?;
         Ok((Part::unused(counter), from + 1))
     }
 

@@ -1,10 +1,11 @@
 //! Consecutive cells in memory, in integers of 32 or 64 bits each.
 
-ghost use Rattle.std.specs.Prelude.{◌≡◌, ◌↔◌, ℕ, ◌+◌, ◌<◌, ◌≤◌, IfOk, IsTrue, false, length, replicate, slice_index, slice_set};
+ghost use Rattle.std.specs.Prelude.{◌≡◌, ◌↔◌, ℕ, ◌+◌, ◌^◌, ◌<◌, ◌≤◌, IfOk, IsTrue, false, length, replicate, slice_index, slice_set};
 ghost use Rattle.qcow2_check.specs.Tally.{IsPlain, with_use};
-ghost use Rattle.qcow2_check.specs.Tally.Cells.{kept_cells};
+ghost use Rattle.qcow2_check.specs.Tally.Cells.{AddsGroup, kept_cells};
 
 use super::{TallyKind, with_use_if};
+use crate::groups::TOGETHER;
 use std::alloc::{AllocError, Global};
 
 // Whether a cell has as many references as the refcount says, all of them by guest data.
@@ -39,6 +40,31 @@ fn are_plain_wide(cells: &[u64], counters: &[u64]) -> bool
         plain &= is_plain(cells[k], counters[k]);
     }
     plain
+}
+
+// Whether each of `TOGETHER` cells from an index on can count one more reference. Tests each, so that the
+// compiler can compare several at once.
+fn have_room(cells: &[u32], first: usize) -> bool
+    requires { first + 16 ≤ length cells.now }
+    ensures { IsTrue result → (k : ℕ) → k < 16 → slice_index cells.now (first + k) + 12 < 2 ^ 32 }
+{
+    let mut room = true;
+    for k in 0..TOGETHER {
+        room &= cells[first + k] < u32::MAX - 11;
+    }
+    room
+}
+
+// Counts a reference by guest data in each of `TOGETHER` cells from an index on.
+fn add_group(cells: &mut [u32], first: usize)
+    requires within { first + 16 ≤ length cells.old }
+    requires room { (k : ℕ) → k < 16 → slice_index cells.old (first + k) + 12 < 2 ^ 32 }
+    ensures { AddsGroup first cells.old cells.new }
+{
+    for k in 0..TOGETHER {
+        let cell = cells[first + k];
+        cells[first + k] = cell + if cell / 4 % 2 == 1 { 8 } else { 12 };
+    }
 }
 
 /// Consecutive cells. A narrow one counts up to 2^29 - 1 references.
@@ -108,6 +134,25 @@ impl Cells {
                 list[index] = cell;
             }
         }
+        true
+    }
+
+    // Counts a reference by guest data in each of `TOGETHER` cells from an index on. Returns false and
+    // changes nothing if the cells are wide, one is past the end or a count may not fit.
+    #[inline]
+    pub(super) fn add_group(&mut self, first: usize) -> bool
+        ensures counted { IsTrue result → AddsGroup first (kept_cells self.old) (kept_cells self.new) }
+        ensures same { result ≡ false → kept_cells self.new ≡ kept_cells self.old }
+        ensures count { length (kept_cells self.new) ≡ length (kept_cells self.old) }
+    {
+        let Cells::Narrow(list) = self else {
+            return false;
+        };
+        let cells = list.as_mut_slice();
+        if first > cells.len() || cells.len() - first < TOGETHER || !have_room(cells, first) {
+            return false;
+        }
+        add_group(cells, first);
         true
     }
 

@@ -5,4 +5,4 @@ use Rattle.qcow2_check.proofs.flags.are_right.Given as goal
 -- none of the entries before this one has a wrong flag, as far as all were right
 abbrev pub invariant-loop-k : goal.invariant-loop-k
 invariant-loop-k l = IsTrue l.right → l.table.geometry.external_data_file ≡ false
-    → (j : ℕ) → j < l.k → HasNoFlag l.table.geometry l.counters (slice_index l.table.numbers (l.first + j))
+    → (j : ℕ) → j < l.k → HasNoFlag l.table.geometry l.soles (slice_index l.table.numbers (l.first + j))

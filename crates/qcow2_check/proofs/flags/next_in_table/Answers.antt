@@ -6,7 +6,7 @@ pub loop-position-preserved-then-starts_right : goal.loop-position-preserved-the
 loop-position-preserved-then-starts_right g c =
     let so_far = c.loop-position.invariant in
     let group = c.if-starts_right.ensures refl in
-    let same = group_has_no_flags _ _ _ _ c.args.l1_index _ c.loop-position.position 16 so_far.reader group.0 group.1 in
+    let same = group_has_no_flags c.args.table.now.geometry (g.S.Storage.state c.args.image.now) c.args.counters.now c.args.soles.now c.args.l1_index c.args.table.now.numbers c.loop-position.position 16 c.requires.soles group.0 group.1 in
     record {
       left = λ told. so_far.left told ∙ same told;
       further = omega (arith, so_far.further);

@@ -1,6 +1,0 @@
-use Rattle.std.proofs.Common.{◌≡◌, ◌↔◌, ℕ, ◌+◌, ◌<◌, IsTrue, slice_index}
-use Rattle.qcow2_check.proofs.counters.are_one.Given as goal
-
--- it says whether all counters before this one are 1
-abbrev pub invariant-loop-k : goal.invariant-loop-k
-invariant-loop-k l = IsTrue l.are_one ↔ ((k : ℕ) → k < l.k → slice_index l.block.numbers (l.index + k) ≡ 1)
