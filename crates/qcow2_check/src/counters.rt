@@ -224,6 +224,20 @@ impl<'a> Counters<'a> {
         (cluster.rt_index(self.header.rb_bits()) == self.kept_index).then_some(block)
     }
 
+    // The refcount of a cluster, if its block is cached.
+    #[inline]
+    #[tactic(auto, using(crate::proofs::CountersLemmas::kept_counter))]
+    fn cached(&self, cluster: HostCluster) -> Option<u64>
+        ensures { IfSome result (λ counter. (image : Image) →
+            IsKeptBlockOf self.now.header image self.now.block →
+            counter_of self.now.header self.now.reftable image cluster.0 ≡ counter) }
+    {
+        let block = self.kept_for(cluster)?;
+        let index = cluster.rb_index(self.header.rb_bits());
+        prove!(index < block.entries());
+        Some(block.get(index))
+    }
+
     /// Whether the refcount table names a block for a cluster.
     pub fn has_block(&self, cluster: HostCluster) -> bool
         ensures { result ≡ is_some (block_of_cluster self.now.header self.now.reftable cluster.0) }
@@ -306,7 +320,6 @@ impl<'a> Counters<'a> {
     /// Fails if the storage fails or memory runs out, and can be called again then. The image must be the one
     /// that the reader was made for, unchanged since. Changes no byte.
     #[inline]
-    #[tactic(auto, using(crate::proofs::CountersLemmas::kept_counter))]
     pub fn get<S: Storage>(&mut self, image: &mut S, cluster: HostCluster) -> Result<u64, Fault>
         requires { OnImage (S.state image.old) (λ bytes. IsKeptBlockOf self.old.header bytes self.old.block) }
         ensures reads { Reads (λ counter. counter) result
@@ -314,17 +327,15 @@ impl<'a> Counters<'a> {
             (λ _. ⊥) (S.state image.old) (S.state image.new) }
         ensures reader { IsSameButBlock (S.state image.old) self.old self.new }
     {
-        if let Some(block) = self.kept_for(cluster) {
-            let index = cluster.rb_index(self.header.rb_bits());
-            prove!(index < block.entries());
-            return Ok(block.get(index));
+        match self.cached(cluster) {
+            Some(counter) => Ok(counter),
+            None => self.get_uncached(image, cluster),
         }
-        self.get_uncached(image, cluster)
     }
 
-    /// As `get`, for clusters in order: caches the block of each.
+    /// Returns the refcount of a cluster as `get` does, for clusters in ascending order: caches the block of
+    /// each.
     #[inline]
-    #[tactic(auto, using(crate::proofs::CountersLemmas::kept_counter))]
     pub fn get_in_order<S: Storage>(
         &mut self,
         image: &mut S,
@@ -336,12 +347,10 @@ impl<'a> Counters<'a> {
             (λ _. ⊥) (S.state image.old) (S.state image.new) }
         ensures reader { IsSameButBlock (S.state image.old) self.old self.new }
     {
-        if let Some(block) = self.kept_for(cluster) {
-            let index = cluster.rb_index(self.header.rb_bits());
-            prove!(index < block.entries());
-            return Ok(block.get(index));
+        match self.cached(cluster) {
+            Some(counter) => Ok(counter),
+            None => self.load(image, cluster),
         }
-        self.load(image, cluster)
     }
 
     // `get` for a cluster whose block isn't cached.

@@ -1,6 +1,6 @@
 //! A tally as a sink of the walk: it counts the references that it takes.
 
-ghost use Rattle.std.specs.Prelude.{◌≡◌, ℕ, ◌+◌, ◌-◌, ◌*◌, ◌^◌, ◌<◌, ◌≤◌, [], ◌∷◌, false, is_some, IfSome, IsOkUnless, IsTrue, None, OnOk, flat_map, length, map, slice_index};
+ghost use Rattle.std.specs.Prelude.{◌≡◌, ℕ, ◌+◌, ◌-◌, ◌*◌, ◌^◌, ◌<◌, ◌≤◌, [], ◌∷◌, false, is_some, IfSome, IsOkUnless, IsTrue, None, OnOk, flat_map, length, map};
 ghost use Rattle.std.proofs.Common.{arith};
 ghost use Rattle.std.proofs.lemmas.Grind.{fold-append};
 ghost use Rattle.std.proofs.lemmas.List.{map-append};

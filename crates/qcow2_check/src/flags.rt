@@ -4,7 +4,6 @@ ghost use Rattle.std.specs.Prelude.{◌≡◌, ℕ, ◌%◌, ◌+◌, ◌*◌, �
 ghost use Rattle.qcow2_base.specs.Format.{most_l1_entries};
 ghost use Rattle.qcow2_base.specs.Storage.{OnImage, OnlyReads};
 ghost use Rattle.qcow2_base.specs.Types.{IsClusterBits};
-ghost use Rattle.qcow2_metadata.specs.Entries.{is_copied, offset_field};
 ghost use Rattle.qcow2_metadata.specs.Header.{geometry};
 ghost use Rattle.qcow2_metadata.specs.Results.{IsFromOutside, Reads};
 ghost use Rattle.qcow2_metadata.specs.Table.{l2_entries};
@@ -16,7 +15,7 @@ use crate::counters::Counters;
 use crate::groups::{TOGETHER, are_unallocated, cluster_at, entry_at, row_at};
 use crate::named_tables::{load_l2_table, named_cluster};
 use crate::soles::Soles;
-use qcow2_base::{Fault, GuestCluster, GuestOffset, HostCluster, HostOffset, Storage, field};
+use qcow2_base::{Fault, GuestCluster, GuestOffset, HostCluster, Storage, field};
 use qcow2_metadata::{Header, L1Table, L2Entry, L2Table, Table, TableEntry};
 use std::marker::Model;
 
