@@ -21,7 +21,7 @@ use Rattle.qcow2_metadata.specs.Refblock.Packing.{width}
 use Rattle.qcow2_metadata.specs.Placed.{numbers_at, place_fault}
 use Rattle.qcow2_metadata.specs.Refblock.{BlockState, block_geometry_of, block_layout, greatest_counter}
 use Rattle.qcow2_metadata.specs.Table.{first_fault}
-use Rattle.qcow2_check.specs.Counters.{IsKeptBlockOf, block_place_fault, blocks_fault, block_of_cluster, counter_of, counters_each}
+use Rattle.qcow2_check.specs.Counters.{AreFree, CountersState, IsKeptBlockOf, block_place_fault, blocks_fault, block_of_cluster, counter_of, counters_each}
 
 -- the last cluster that ends by the greatest end
 pub place_limit : (block cb most : ℕ) → most ≡ 2 ^ 56 / 2 ^ cb → (most ≤ block) ↔ (2 ^ 56 < block * 2 ^ cb + 2 ^ cb)
@@ -122,6 +122,32 @@ kept_counter_after header reftable image block b c k named place kept within =
     let index : (c + k) % n ≡ c % n + k = omega (arith, parts) in
     kept_counter header reftable image block b (c + k) named same kept ∙ rw index refl
 
+-- so where it has zeros from one on, the clusters' counters are 0
+pub kept_zeros : (reader : CountersState) (image : Image) (block : BlockState) (c count : ℕ) → reader.block ≡ Some block
+    → IsSomeAnd block.cluster (λ place. block_of_cluster reader.header reader.reftable c ≡ Some place)
+    → c % counters_each reader.header + count ≤ counters_each reader.header
+    → ((k : ℕ) → k < count → slice_index block.numbers (c % counters_each reader.header + k) ≡ 0)
+    → IsKeptBlockOf reader.header image reader.block → AreFree reader image c (c + count)
+kept_zeros reader image block c count is names within zeros kept = λ other after before. by_place block.cluster refl other after before
+  where
+    by_place : (place : Option HostCluster) → block.cluster ≡ place → AreFree reader image c (c + count)
+    by_place None none other after before =
+        let never : IsSomeAnd {T = HostCluster} None (λ place. block_of_cluster reader.header reader.reftable c ≡ Some place) = rw none at names in
+        absurd never
+    by_place (Some b) some other after before =
+        let named : block_of_cluster reader.header reader.reftable c ≡ Some b = rw some at names in
+        let k = other - c in
+        let below : k < count = omega (arith, after, before) in
+        let sum : c + k ≡ other = omega (arith, after) in
+        let here : counter_of reader.header reader.reftable image (c + k) ≡ 0 =
+        kept_counter_after reader.header reader.reftable image block b c k some named (rw is at kept) (omega (arith, below, within)) ∙ zeros k below in
+        rw sum at here
+
+-- and those of clusters without a block are
+pub no_block_is_free : (reader : CountersState) (image : Image) (from to : ℕ)
+    → ((c : ℕ) → from ≤ c → c < to → block_of_cluster reader.header reader.reftable c ≡ None) → AreFree reader image from to
+no_block_is_free reader image from to none = λ c after before. rw (none c after before, counter_of) refl
+
 -- so the counters of the kept block are those of the clusters from its first one on
 pub block_counters : (header : HeaderRecord) (reftable : List ℕ) (image : Image) (kept : Option BlockState) (block : BlockState) (c : ℕ)
     → kept ≡ Some block → IsSomeAnd block.cluster (λ place. block_of_cluster header reftable c ≡ Some place)
@@ -153,6 +179,33 @@ pub block_before : (header : HeaderRecord) (reftable : List ℕ) (cluster c : �
 block_before header reftable cluster c from to =
     let same : c / counters_each header ≡ cluster / counters_each header = quotient_before (counters_each header) cluster c (pow_pos _) from to in
     rw same refl
+
+-- so where the kept block has zeros up to one, the counters of the clusters before it are 0
+pub kept_zeros_before : (reader : CountersState) (image : Image) (block : BlockState) (end count : ℕ) → reader.block ≡ Some block
+    → IsSomeAnd block.cluster (λ place. block_of_cluster reader.header reader.reftable end ≡ Some place)
+    → count ≤ end % counters_each reader.header
+    → ((k : ℕ) → end % counters_each reader.header ≤ k + count → k < end % counters_each reader.header → slice_index block.numbers k ≡ 0)
+    → IsKeptBlockOf reader.header image reader.block → AreFree reader image (end - count) end
+kept_zeros_before reader image block end count is names within zeros kept = λ c after before. by_place block.cluster refl c after before
+  where
+    n : ℕ
+    n = counters_each reader.header
+
+    by_place : (place : Option HostCluster) → block.cluster ≡ place → AreFree reader image (end - count) end
+    by_place None none c after before =
+        let never : IsSomeAnd {T = HostCluster} None (λ place. block_of_cluster reader.header reader.reftable end ≡ Some place) = rw none at names in
+        absurd never
+    by_place (Some b) some c after before =
+        let from : end - end % n ≤ c = omega (arith, after, within) in
+        let upto : c ≤ end = omega (arith, before) in
+        let named : block_of_cluster reader.header reader.reftable c ≡ Some b =
+        block_before reader.header reader.reftable end c from upto ∙ rw some at names in
+        let one : c / n * n + c % n ≡ c = div-add-mod' c n in
+        let both : end / n * n + end % n ≡ end = div-add-mod' end n in
+        let same : c / n ≡ end / n = quotient_before n end c (pow_pos _) from upto in
+        let index : end % n ≡ c % n + (end - c) = omega (arith, rw same at one, both, upto) in
+        kept_counter reader.header reader.reftable image block b c some named (rw is at kept)
+        ∙ zeros (c % n) (omega (arith, index, after)) (omega (arith, index, before))
 
 -- a power of two times its part of the greatest end is that end
 whole_end : (k : ℕ) → k ≤ 56 → 2 ^ 56 / 2 ^ k * 2 ^ k ≡ 2 ^ 56

@@ -15,7 +15,7 @@ use Rattle.qcow2_check.specs.Uses.{ImageTables, block_uses, entry_uses, header_u
 use Rattle.qcow2_check.proofs.FindingsLemmas.{cell_counts}
 use Rattle.qcow2_check.specs.declared.tally.TallyKind.{TallyKind}
 use Rattle.qcow2_check.specs.declared.tally.TallyKind.TheVariants.{Fixed, Guest, L2Table}
-use Rattle.qcow2_check.specs.Walk.{Took, block_list, entries_list, entry_list, guest_list, header_list, l1_list, list_from, counted_use, table_list, tables_list, use_list}
+use Rattle.qcow2_check.specs.Walk.{CountsUses, Took, block_list, entries_list, entry_list, guest_list, header_list, l1_list, list_from, counted_use, table_list, tables_list, use_list}
 use Rattle.qcow2_check.specs.declared.uses.Use.{Use}
 
 -- what numbers use, by their places or without
@@ -184,3 +184,7 @@ walked_uses tables image c =
     let uses = map counted_use (use_list tables image) in
     let cell = fold (cell_with c) 0 uses in
     sym (cell_counts uses c cell refl) ∙ cell_counts (image_uses tables image) c cell (same_counts c 0 tables image)
+
+-- uses that are counted after others
+pub counts_both : (first second : List Use) (a b c : TallyState) → CountsUses first a b → CountsUses second b c → CountsUses (first ++ second) a c
+counts_both first second a b c one other = grind (arith, one, other, map-append, fold-append)

@@ -88,16 +88,19 @@ found_is reader tally image c counter cell has is from before counts says =
     let all : cell_at tally c ≡ fold (cell_with c) 0 uses = (rw has at is.counted) c from before in
     grind (arith, counts, cell_counts uses c cell (says ∙ all), cell_shares uses c cell (says ∙ all))
 
--- nothing is wrong with clusters that have no use and no block
+-- nothing is wrong with clusters that have no use and whose counters are 0
 pub right_before : (reader : FindingsState) (tally : TallyState) (image : Image) (from to : ℕ) → reader.tally ≡ Some tally
     → IsFindingsOf image reader → tally.first ≤ from → to ≤ tally.end
     → ((c : ℕ) → from ≤ c → c < to → cell_at tally c ≡ 0)
-    → ((c : ℕ) → from ≤ c → c < to → block_of_cluster reader.header reader.counters.reftable c ≡ None)
+    → ((c : ℕ) → from ≤ c → c < to → counter_of reader.header reader.counters.reftable image c ≡ 0)
     → AreRight (tables_of reader) image from to
-right_before reader tally image from to has is first end unused none = λ c after before.
+right_before reader tally image from to has is first end unused free = λ c after before.
     let uses = image_uses (tables_of reader) image in
     let all : cell_at tally c ≡ fold (cell_with c) 0 uses = (rw has at is.counted) c (omega (arith, first, after)) (omega (arith, before, end)) in
-    grind (arith, nat_tests, none c after before, unused c after before, cell_counts uses c 0 (sym (unused c after before) ∙ all), cell_shares uses c 0 (sym (unused c after before) ∙ all))
+    let none : 0 ≡ fold (cell_with c) 0 uses = sym (unused c after before) ∙ all in
+    let counter : counter_of reader.header reader.counters.reftable image c ≡ uses_of uses c = free c after before ∙ cell_counts uses c 0 none in
+    let apart : is_shared uses c ≡ false = sym (cell_shares uses c 0 none) in
+    grind (arith, nat_tests, counter, apart)
 
 pub right_more : (tables : ImageTables) (image : Image) (from c : ℕ) (finding : Finding) → AreRight tables image from c
     → finding ≡ finding_at tables image c → is_wrong finding ≡ false → AreRight tables image from (c + 1)
@@ -131,6 +134,20 @@ refused_opening view header fault a b refuses = record {
   exact = λ told. grind (arith, told, refuses.exact);
   faults = grind (arith, refuses.faults);
   storage = grind (arith, nat_tests, refuses.storage);
+}
+
+-- reads one after another that returned values
+pub reads_twice : {A B C : Type 0} (x : A) (y : B) (z : C) (a b c : StorageState) → OnlyReads (Ok x) a b → OnlyReads (Ok y) b c → OnlyReads (Ok z) a c
+reads_twice x y z a b c one other = grind (arith, nat_tests, one, other)
+
+-- tables that are opened before more is read
+pub opened_before : {T U : Type 0} {seen : U → ImageTables} (opened : U) (more : T) (header : HeaderRecord) (a b c : StorageState)
+    → Reads seen (Ok opened) (opened_tables header) (IsCheckFault header) a b → OnlyReads (Ok more) b c
+    → Reads seen (Ok opened) (opened_tables header) (IsCheckFault header) a c
+opened_before opened more header a b c opens reads = record {
+  exact = opens.exact;
+  faults = opens.faults;
+  storage = reads_twice opened more opened a b c opens.storage reads;
 }
 
 -- L2 tables that can't all be loaded, after the L1 table and the refcount table
@@ -209,10 +226,6 @@ moves_twice old now a b c reads one other = record {
   same = rw (other.same, one.same) refl;
   kept = λ told. rw reads.bytes at (other.kept (rw reads.device.tells told));
 }
-
--- reads one after another that returned values
-pub reads_twice : {A B C : Type 0} (x : A) (y : B) (z : C) (a b c : StorageState) → OnlyReads (Ok x) a b → OnlyReads (Ok y) b c → OnlyReads (Ok z) a c
-reads_twice x y z a b c one other = grind (arith, nat_tests, one, other)
 
 -- uses that don't exclude each other
 pub excludes : (uses : List ClusterUse) (c : ℕ) → is_shared uses c ≡ false

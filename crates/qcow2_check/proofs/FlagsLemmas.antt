@@ -1,22 +1,23 @@
 use Rattle.std.proofs.lemmas.Bool.{cases_lt}
 use Rattle.std.proofs.lemmas.Bool.Decides.{nat_tests}
 use Rattle.std.specs.Prelude.{◌&&◌, ◌==◌}
-use Rattle.std.proofs.Common.{◌≡◌, ℕ, zero, suc, Bool, true, false, None, ap, drop, add-zero, drop-cons, refl, ◌∙◌, ◌++◌, option_to_list, ◌+◌, ◌-◌, ◌*◌, ◌/◌, ◌^◌, ◌<◌, ◌≤◌, List, [], ◌∷◌, length, slice_index, Some, Ok, Err, IsTrue, sym, inl, inr, arith}
+use Rattle.std.proofs.Common.{◌≡◌, ℕ, zero, suc, Bool, true, false, None, ap, subst, drop, add-zero, drop-cons, refl, ◌∙◌, ◌++◌, option_to_list, ◌+◌, ◌-◌, ◌*◌, ◌/◌, ◌^◌, ◌<◌, ◌≤◌, List, [], ◌∷◌, length, slice_index, Some, Ok, Err, IsTrue, sym, inl, inr, arith}
 use Rattle.std.proofs.Math.Pow.{pow_mono}
 use Rattle.std.proofs.lemmas.Nat.{mul-add-lt, mul-lt}
 use Rattle.qcow2_base.specs.Storage.{Image, OnImage, StorageState}
 use Rattle.qcow2_base.specs.declared.fault.Fault.{Fault}
 use Rattle.qcow2_base.specs.declared.types.HostCluster.{HostCluster}
 use Rattle.qcow2_metadata.specs.Header.{Geometry, HeaderRecord, geometry, geometry_of}
+use Rattle.qcow2_metadata.specs.Placed.{numbers_at}
 use Rattle.qcow2_metadata.specs.Results.{Answers}
-use Rattle.qcow2_metadata.specs.Table.{IsContentFault, TableState, l2_entries, loaded_l2_table}
+use Rattle.qcow2_metadata.specs.Table.{IsContentFault, TableState, l2_entries, l2_layout, loaded_l2_table}
 use Rattle.qcow2_check.specs.Findings.{IsLaterFault}
 use Rattle.qcow2_check.specs.Counters.{CountersState, counter_of}
-use Rattle.qcow2_check.specs.Flags.{HasNoFlag, flagged_cluster, l2_flag, l2_flags, l2_flags_from}
+use Rattle.qcow2_check.specs.Flags.{AreMarksOf, FlagsState, HasNoFlag, IsClean, IsFlagsOf, flag_tables, flags_left, MarksState, flagged_cluster, l1_flag, l1_flags, table_flags, l2_flag, l2_flags, l2_flags_from}
 use Rattle.qcow2_metadata.specs.Entries.{is_copied, offset_field}
 use Rattle.qcow2_check.specs.NamedTables.{named_cluster}
 use Rattle.qcow2_check.specs.Soles.{AreSoles, IsMarked}
-use Rattle.qcow2_check.specs.Uses.{all_load, l1_entry_loads}
+use Rattle.qcow2_check.specs.Uses.{ImageTables, all_load, l1_entry_loads}
 
 -- the offset of each guest cluster that an L1 table of the most entries leads to fits 64 bits
 pub guest_offset_fits : (cb index l2_index : ℕ) → cb ≤ 21 → index < 4194304 → l2_index < 2 ^ (cb - 3) → (index * 2 ^ (cb - 3) + l2_index) * 2 ^ cb < 2 ^ 64
@@ -85,7 +86,7 @@ pub other_is_right : (g : Geometry) (marks : List ℕ) (v : ℕ) → flagged_clu
 other_is_right g marks v none = λ counter guest soles. grind (arith, nat_tests, none)
 
 -- where several entries have none, the same are left after them
-no_flags : (g : Geometry) (marks : List ℕ) (counter : ℕ → ℕ) (index : ℕ) (numbers : List ℕ) (i k : ℕ) → i + k ≤ length numbers
+pub no_flags : (g : Geometry) (marks : List ℕ) (counter : ℕ → ℕ) (index : ℕ) (numbers : List ℕ) (i k : ℕ) → i + k ≤ length numbers
     → AreSoles counter marks → ((j : ℕ) → j < k → HasNoFlag g marks (slice_index numbers (i + j)))
     → l2_flags_from g counter index numbers i ≡ l2_flags_from g counter index numbers (i + k)
 no_flags g marks counter index numbers i zero within soles none = rw (add-zero i) refl
@@ -121,3 +122,44 @@ copied_more numbers first cb start k cluster before copied so_far is at all j be
           let same : j ≡ k = omega (arith, below, later) in
           rw same (sym is ∙ two, sym at ∙ three)
     ]
+
+-- an L1 entry that names no L2 table is clean
+pub unnamed_is_clean : (tables : ImageTables) (image : Image) (index : ℕ)
+    → named_cluster tables.header.v2.cluster_bits (slice_index tables.l1 index) ≡ None → IsClean tables image index
+unnamed_is_clean tables image index none = (rw (none, l1_flag) refl, rw (none, table_flags) refl)
+
+-- and so is one that says so of a cluster whose counter is 1, where the L2 table there has no wrong flag
+pub table_is_clean : (tables : ImageTables) (image : Image) (index : ℕ) (cluster : HostCluster)
+    → named_cluster tables.header.v2.cluster_bits (slice_index tables.l1 index) ≡ Some cluster
+    → is_copied (slice_index tables.l1 index) ≡ true → counter_of tables.header tables.reftable image cluster.0 ≡ 1
+    → l2_flags_from (geometry_of tables.header) (counter_of tables.header tables.reftable image) index
+    (numbers_at (l2_layout (geometry_of tables.header)) cluster image) 0 ≡ []
+    → IsClean tables image index
+table_is_clean tables image index cluster names copied sole none = (rw (names, l1_flag, copied, sole) refl, rw (names, table_flags) none)
+
+-- marks that go on by a clean entry
+pub marks_more : (tables : ImageTables) (image : Image) (marks : MarksState) → AreMarksOf tables image marks → IsClean tables image marks.clean
+    → AreMarksOf tables image (record marks { clean = marks.clean + 1 })
+marks_more tables image marks are clean = record {
+  soles = are.soles;
+  clean = λ index below. elim (cases_lt index marks.clean) [
+    | inl sooner ↦ are.clean index sooner
+    | inr later ↦
+        let same : marks.clean ≡ index = omega (arith, below, later) in
+        subst (λ i. IsClean tables image i) same clean
+  ];
+}
+
+-- the flags that are left at a clean entry are those from the next one on
+pub clean_leaves : (tables : ImageTables) (image : Image) (index : ℕ) → index < length tables.l1 → IsClean tables image index
+    → l1_flags tables.header tables.reftable image index (drop index tables.l1)
+    ≡ l1_flags tables.header tables.reftable image (index + 1) (drop (index + 1) tables.l1)
+clean_leaves tables image index below clean =
+    let one_more : suc index ≡ index + 1 = omega arith in
+    ap (λ vs. l1_flags tables.header tables.reftable image index vs) (drop-cons tables.l1 index 0 below)
+    ∙ rw (clean.0, clean.1, ← one_more) refl
+
+pub clean_step : (reader : FlagsState) (image : Image) → IsFlagsOf image reader → reader.table ≡ None → reader.index < length reader.l1
+    → reader.index < reader.marks.clean → flags_left reader image ≡ flags_left (record reader { index = reader.index + 1 }) image
+clean_step reader image is none below clean =
+    rw (none, flags_left) (clean_leaves (flag_tables reader) image reader.index below (is.marks.clean reader.index clean))

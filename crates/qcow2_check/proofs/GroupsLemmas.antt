@@ -10,7 +10,9 @@ use Rattle.qcow2_check.proofs.UsesLemmas.{single_use, standard_cluster, unalloca
 use Rattle.qcow2_check.specs.Groups.{IsInRow, IsRow}
 use Rattle.qcow2_check.specs.Tally.{ClusterUse, CountsGroup, CountsMore, TallyState, cell_at, cell_with, used_clusters}
 use Rattle.qcow2_check.specs.Uses.{entry_uses}
+use Rattle.qcow2_check.specs.Walk.{entry_list, one_use}
 use Rattle.qcow2_check.specs.declared.tally.TallyKind.TheVariants.{Guest}
+use Rattle.qcow2_check.specs.declared.uses.UseKind.TheVariants.{Data}
 
 -- an entry in a row uses its one cluster
 row_entry : (g : Geometry) (v c : ℕ) → g.external_data_file ≡ false → IsClusterBits g.cluster_bits → IsInRow g.cluster_bits v c → 0 < c
@@ -20,6 +22,16 @@ row_entry g v c inside bits is some =
     let clusters : ClustersToFreeEntry = record { first = record { 0 = c }; count = record { 0 = 1 } } in
     let refers : allocation (geometry cb false) v ≡ Some clusters = standard_cluster cb v c bits is.standard is.valid is.cluster some in
     subst (λ x. entry_uses x v ≡ used_clusters Guest (record { 0 = c }) 1 ∷ []) (inside_only g inside) (single_use cb v c clusters refers refl refl)
+
+-- and that is data of its guest cluster
+pub row_use : (g : Geometry) (guest v c : ℕ) → g.external_data_file ≡ false → IsClusterBits g.cluster_bits → IsInRow g.cluster_bits v c → 0 < c
+    → entry_list g guest v ≡ one_use Data (record { 0 = c }) 1 guest ∷ []
+row_use g guest v c inside bits is some =
+    let cb = g.cluster_bits in
+    let clusters : ClustersToFreeEntry = record { first = record { 0 = c }; count = record { 0 = 1 } } in
+    let refers : allocation (geometry cb false) v ≡ Some clusters = standard_cluster cb v c bits is.standard is.valid is.cluster some in
+    let here : allocation g v ≡ Some clusters = subst (λ x. allocation x v ≡ Some clusters) (inside_only g inside) refers in
+    grind (arith, nat_tests, inside, here, is.standard)
 
 -- the uses of single clusters one after another are counted as one of all of them
 row_counts : (f : ℕ → List ClusterUse) (numbers : List ℕ) (i k start c cell : ℕ) → i + k ≤ length numbers

@@ -1,4 +1,4 @@
-use Rattle.std.proofs.Common.{◌≡◌, ℕ, ◌+◌, ◌<◌, List, [], ◌∷◌, ◌++◌, take, length, slice_index, Result, Ok, Err, OnOk, add-zero, refl, subst, sym, ◌∙◌, ap, arith}
+use Rattle.std.proofs.Common.{◌≡◌, ℕ, zero, suc, Bool, true, false, ◌+◌, ◌<◌, ◌≤◌, List, [], ◌∷◌, ◌++◌, take, length, slice_index, Result, Ok, Err, OnOk, add-zero, refl, subst, sym, ◌∙◌, ap, arith}
 use Rattle.std.proofs.Math.Nat.{zero-add}
 use Rattle.std.proofs.lemmas.List.{append-nil, append_assoc, length-take-le}
 use Rattle.qcow2_base.specs.Storage.{Image, OnImage, OnlyReads, StorageState}
@@ -10,8 +10,9 @@ use Rattle.qcow2_metadata.specs.Table.{IsEntryFault, TableState, l2_layout}
 use Rattle.qcow2_base.specs.declared.types.HostCluster.{HostCluster}
 use Rattle.qcow2_check.proofs.UsesLemmas.{all_load_more, all_load_until, loaded, take_more}
 use Rattle.qcow2_check.specs.Uses.{all_load, l1_entry_loads}
-use Rattle.qcow2_check.specs.Walk.{Took, entries_list, l1_list, list_from}
+use Rattle.qcow2_check.specs.Walk.{TakesEntries, Took, entries_list, entry_list, l1_list, list_from, one_use, row_list}
 use Rattle.qcow2_check.specs.declared.uses.Use.{Use}
+use Rattle.qcow2_check.specs.declared.uses.UseKind.TheVariants.{Data}
 
 -- the uses by numbers and by one more
 list_append : (uses : ℕ → ℕ → List Use) (place : ℕ) (vs : List ℕ) (v : ℕ)
@@ -28,6 +29,55 @@ pub list_next : (uses : ℕ → ℕ → List Use) (place : ℕ) (vs : List ℕ) 
 list_next uses place vs i below =
     ap (λ xs. list_from uses place xs) (take_more vs i 0 below) ∙ list_append uses place (take i vs) (slice_index vs i)
     ∙ ap (λ n. list_from uses place (take i vs) ++ uses (place + n) (slice_index vs i)) (length-take-le i vs (omega (arith, below)))
+
+-- numbers that use nothing add none
+pub list_skip : (uses : ℕ → ℕ → List Use) (place : ℕ) (vs : List ℕ) (i k : ℕ) → i + k ≤ length vs
+    → ((j : ℕ) → j < k → uses (place + (i + j)) (slice_index vs (i + j)) ≡ [])
+    → list_from uses place (take (i + k) vs) ≡ list_from uses place (take i vs)
+list_skip uses place vs i zero within none = rw (add-zero i) refl
+list_skip uses place vs i (suc k) within none =
+    let sum : i + suc k ≡ i + k + 1 = omega arith in
+    let last : uses (place + (i + k)) (slice_index vs (i + k)) ≡ [] = none k (omega arith) in
+    ap (λ n. list_from uses place (take n vs)) sum ∙ list_next uses place vs (i + k) (omega (arith, within))
+    ∙ ap (λ us. list_from uses place (take (i + k) vs) ++ us) last ∙ append-nil (list_from uses place (take (i + k) vs))
+    ∙ list_skip uses place vs i k (omega (arith, within)) (λ j below. none j (omega (arith, below)))
+
+-- an entry 0 uses nothing
+pub no_entry : (g : Geometry) (guest : ℕ) → entry_list g guest 0 ≡ []
+no_entry g guest = by_file g.external_data_file refl
+  where
+    by_file : (external : Bool) → g.external_data_file ≡ external → entry_list g guest 0 ≡ []
+    by_file true is = grind (arith, is)
+    by_file false is = grind (arith, is)
+
+-- a row with one cluster more
+pub row_append : (first guest k : ℕ) → row_list first guest (k + 1) ≡ row_list first guest k ++ one_use Data (record { 0 = first + k }) 1 (guest + k) ∷ []
+row_append first guest zero = rw (add-zero first, add-zero guest) refl
+row_append first guest (suc k) =
+    let cluster : first + 1 + k ≡ first + suc k = omega arith in
+    let owner : guest + 1 + k ≡ guest + suc k = omega arith in
+    let more : suc k + 1 ≡ suc (k + 1) = omega arith in
+    ap (λ n. row_list first guest n) more ∙ ap (λ us. one_use Data (record { 0 = first }) 1 guest ∷ us) (row_append (first + 1) (guest + 1) k
+    ∙ ap (λ n. row_list (first + 1) (guest + 1) k ++ one_use Data (record { 0 = n }) 1 (guest + 1 + k) ∷ []) cluster
+    ∙ ap (λ n. row_list (first + 1) (guest + 1) k ++ one_use Data (record { 0 = first + suc k }) 1 n ∷ []) owner)
+
+-- numbers that use single clusters one after another
+pub list_row : (uses : ℕ → ℕ → List Use) (place : ℕ) (vs : List ℕ) (i k start : ℕ) → i + k ≤ length vs
+    → ((j : ℕ) → j < k → uses (place + (i + j)) (slice_index vs (i + j)) ≡ one_use Data (record { 0 = start + j }) 1 (place + (i + j)) ∷ [])
+    → list_from uses place (take (i + k) vs) ≡ list_from uses place (take i vs) ++ row_list start (place + i) k
+list_row uses place vs i zero start within each = rw (add-zero i) (sym (append-nil (list_from uses place (take i vs))))
+list_row uses place vs i (suc k) start within each =
+    let before = list_from uses place (take i vs) in
+    let sum : i + suc k ≡ i + k + 1 = omega arith in
+    let owner : place + (i + k) ≡ place + i + k = omega arith in
+    let one_more : k + 1 ≡ suc k = omega arith in
+    let last : uses (place + (i + k)) (slice_index vs (i + k)) ≡ one_use Data (record { 0 = start + k }) 1 (place + i + k) ∷ [] =
+    each k (omega arith) ∙ ap (λ n. one_use Data (record { 0 = start + k }) 1 n ∷ []) owner in
+    ap (λ n. list_from uses place (take n vs)) sum ∙ list_next uses place vs (i + k) (omega (arith, within))
+    ∙ ap (λ us. list_from uses place (take (i + k) vs) ++ us) last
+    ∙ ap (λ us. us ++ one_use Data (record { 0 = start + k }) 1 (place + i + k) ∷ []) (list_row uses place vs i k start (omega (arith, within)) (λ j below. each j (omega (arith, below))))
+    ∙ append_assoc before (row_list start (place + i) k) (one_use Data (record { 0 = start + k }) 1 (place + i + k) ∷ [])
+    ∙ ap (λ us. before ++ us) (sym (row_append start (place + i) k) ∙ ap (λ n. row_list start (place + i) n) one_more)
 
 -- the L2 tables that the first L1 entries name are loaded, and they and what they refer to are taken
 pub record AreWalked {Sink : Type 0} (takes : List Use → Sink → Sink → Type 0) (g : Geometry) (l1 : List ℕ) (index : ℕ) (old new : StorageState) (before after : Sink) : Type 0 where

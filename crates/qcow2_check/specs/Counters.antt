@@ -40,6 +40,10 @@ pub record CountersState : Type 0 where
   pub reftable : List ℕ
   pub block : Option BlockState
 
+-- the counters of the clusters from one on to before another are 0 in an image of the reader's
+abbrev pub AreFree : CountersState → Image → ℕ → ℕ → Type 0
+AreFree reader image from to = (c : ℕ) → from ≤ c → c < to → counter_of reader.header reader.reftable image c ≡ 0
+
 -- the counters of the block that is kept, none if none is
 abbrev pub numbers_of_kept : Option BlockState → List ℕ
 numbers_of_kept None = []

@@ -11,6 +11,7 @@ use Rattle.qcow2_metadata.specs.Results.{IsFromOutside, and_then, result_map, un
 use Rattle.qcow2_metadata.specs.Table.{IsContentFault}
 use Rattle.qcow2_metadata.specs.Table.L2Guards.{one_if}
 use Rattle.qcow2_check.specs.Counters.{CountersState, IsKeptBlockOf, IsTablesFault, counter_of, placed_reftable}
+use Rattle.qcow2_check.specs.Flags.{AreMarksOf, MarksState}
 use Rattle.qcow2_check.specs.NamedTables.{loaded_l1_table}
 use Rattle.qcow2_check.specs.Tally.{TallyState, ClusterUse, cell_at, cell_with, mark_of}
 use Rattle.qcow2_check.specs.Uses.{ImageTables, all_load, image_uses, uses_of}
@@ -51,12 +52,13 @@ abbrev pub is_missing : Finding → Bool
 is_missing finding = nat_lt finding.counter finding.uses
 
 -- what a reader of findings has: the image's header, its L1 table and its counters, the uses of the clusters of a part of
--- the image where they are counted, and the cluster that it has come to
+-- the image where they are counted, what their count found out about copied flags, and the cluster that it has come to
 pub record FindingsState : Type 0 where
   pub header : HeaderRecord
   pub l1 : List ℕ
   pub counters : CountersState
   pub tally : Option TallyState
+  pub marks : MarksState
   pub position : ℕ
 
 -- the tables of the image that a reader reads
@@ -72,6 +74,7 @@ CountsAll tables image tally = (c : ℕ) → tally.first ≤ c → c < tally.end
 pub record IsFindingsOf (image : Image) (reader : FindingsState) : Type 0 where
   pub kept : IsKeptBlockOf reader.header image reader.counters.block
   pub counted : IfSome reader.tally (CountsAll (tables_of reader) image)
+  pub marks : AreMarksOf (tables_of reader) image reader.marks
   pub loads : all_load (geometry_of reader.header) reader.l1 image ≡ Ok (tt {0})
 
 -- a reader stays as it is, but for the cluster that it has come to, the block that it keeps and what it has counted

@@ -1,5 +1,5 @@
 -- Which entries of an image say wrongly that they are the only one to refer to a cluster, or don't say it?
-use Rattle.std.specs.Prelude.{◌≡◌, ℕ, Bool, true, not, ◌==◌, ◌+◌, ◌-◌, ◌*◌, ◌/◌, ◌^◌, ◌<◌, ◌≤◌, if◌then◌else◌, List, [], ◌∷◌, ◌++◌, drop, length, Option, Some, None, option_map, option_to_list, Result, Ok, Err}
+use Rattle.std.specs.Prelude.{◌≡◌, ℕ, Bool, true, not, ◌==◌, ◌+◌, ◌-◌, ◌*◌, ◌/◌, ◌^◌, ◌<◌, ◌≤◌, if◌then◌else◌, List, [], ◌∷◌, ◌++◌, drop, length, slice_index, Option, Some, None, option_map, option_to_list, Result, Ok, Err}
 use Rattle.qcow2_base.specs.Storage.{Image, OnImage, StorageState}
 use Rattle.qcow2_base.specs.declared.fault.Fault.{Fault}
 use Rattle.qcow2_base.specs.declared.types.HostCluster.{HostCluster}
@@ -85,14 +85,30 @@ l1_flags header reftable image index (v ∷ vs) = option_to_list (l1_flag header
 abbrev pub image_flags : ImageTables → Image → List WrongFlag
 image_flags tables image = l1_flags tables.header tables.reftable image 0 tables.l1
 
--- what a reader of flags has: the image's header, its L1 table and its counters, marks of the clusters whose counter is 1, the
--- index of the L1 entry that it has come to, and where that entry's flag was looked at, the L2 table that it names and the
--- index of the entry there
+-- the L1 entry at an index has no wrong flag, nor has any entry of its L2 table
+abbrev pub IsClean : ImageTables → Image → ℕ → Type 0
+IsClean tables image index = let v = slice_index tables.l1 index in
+    (l1_flag tables.header tables.reftable image index v ≡ None) × (table_flags tables.header tables.reftable image index v ≡ [])
+
+-- what is known of copied flags before they are tested one by one: marks of clusters whose counter is 1, and how many L1 entries
+-- are clean, of the first ones
+pub record MarksState : Type 0 where
+  pub soles : List ℕ
+  pub clean : ℕ
+
+-- that is so of an image with these tables
+pub record AreMarksOf (tables : ImageTables) (image : Image) (marks : MarksState) : Type 0 where
+  pub soles : AreSoles (counter_of tables.header tables.reftable image) marks.soles
+  pub clean : (index : ℕ) → index < marks.clean → IsClean tables image index
+
+-- what a reader of flags has: the image's header, its L1 table and its counters, what is known of its flags, the index of
+-- the L1 entry that it has come to, and where that entry's flag was looked at, the L2 table that it names and the index of the
+-- entry there
 pub record FlagsState : Type 0 where
   pub header : HeaderRecord
   pub l1 : List ℕ
   pub counters : CountersState
-  pub soles : List ℕ
+  pub marks : MarksState
   pub index : ℕ
   pub table : Option TableState
   pub position : ℕ
@@ -119,11 +135,11 @@ flag_steps reader = let each = l2_entries reader.header.v2.cluster_bits + 2 in e
   | Some table ↦ (length reader.l1 - (reader.index + 1)) * each + (length table.numbers - reader.position + 1)
 ]
 
--- a reader of flags reads this image: the block that it keeps is the same as there, as are the counters that it marks, and
--- all L2 tables can be loaded
+-- a reader of flags reads this image: the block that it keeps is the same as there, what it knows of the flags is so, and all
+-- L2 tables can be loaded
 pub record IsFlagsOf (image : Image) (reader : FlagsState) : Type 0 where
   pub kept : IsKeptBlockOf reader.header image reader.counters.block
-  pub soles : AreSoles (counter_of reader.header reader.counters.reftable image) reader.soles
+  pub marks : AreMarksOf (flag_tables reader) image reader.marks
   pub loads : all_load (geometry_of reader.header) reader.l1 image ≡ Ok (tt {0})
 
 -- a reader of flags reads the same tables as before

@@ -1,5 +1,5 @@
 -- What does an image use, in which order, and what refers to it?
-use Rattle.std.specs.Prelude.{◌≡◌, ℕ, ◌+◌, ◌*◌, ◌^◌, ◌<◌, List, [], ◌∷◌, ◌++◌, if◌then◌else◌, option_map, option_to_list, Some, None}
+use Rattle.std.specs.Prelude.{◌≡◌, ℕ, zero, suc, ◌+◌, ◌*◌, ◌^◌, ◌<◌, List, [], ◌∷◌, ◌++◌, if◌then◌else◌, map, take, option_map, option_to_list, Some, None}
 use Rattle.std.specs.Int.{div_ceil}
 use Rattle.qcow2_base.specs.Format.{most_l1_entries, most_reftable_entries}
 use Rattle.qcow2_base.specs.Storage.{Image, OnImage, StorageState}
@@ -9,7 +9,7 @@ use Rattle.qcow2_metadata.specs.Header.{Geometry, HeaderRecord, geometry_of}
 use Rattle.qcow2_metadata.specs.Placed.{numbers_at}
 use Rattle.qcow2_metadata.specs.Table.{l2_entries, l2_layout}
 use Rattle.qcow2_check.specs.NamedTables.{l1_cluster, named_block, named_cluster, reftable_cluster}
-use Rattle.qcow2_check.specs.Tally.{ClusterUse}
+use Rattle.qcow2_check.specs.Tally.{ClusterUse, CountsMore, TallyState}
 use Rattle.qcow2_check.specs.Uses.{ImageTables}
 use Rattle.qcow2_check.specs.declared.tally.TallyKind.{TallyKind}
 use Rattle.qcow2_check.specs.declared.tally.TallyKind.TheVariants as tally
@@ -47,6 +47,16 @@ list_from uses place (v ∷ vs) = uses place v ++ list_from uses (place + 1) vs
 -- what the entries of the L2 table of the L1 entry at an index refer to
 abbrev pub entries_list : Geometry → ℕ → List ℕ → List Use
 entries_list g index numbers = list_from (entry_list g) (index * l2_entries g.cluster_bits) numbers
+
+-- guest data in that many clusters from one on, of guest clusters from one on
+abbrev pub row_list : ℕ → ℕ → ℕ → List Use
+row_list first guest zero = []
+row_list first guest (suc count) = one_use Data (record { 0 = first }) 1 guest ∷ row_list (first + 1) (guest + 1) count
+
+-- a sink that took what the entries of a table before an index refer to then takes that of the entries before another
+abbrev pub TakesEntries : {Sink : Type 0} → (List Use → Sink → Sink → Type 0) → Geometry → ℕ → List ℕ → ℕ → ℕ → Sink → Sink → Type 0
+TakesEntries {Sink} takes g index numbers from to old new = (start : Sink) → takes (entries_list g index (take from numbers)) start old
+    → takes (entries_list g index (take to numbers)) start new
 
 -- the L2 table that the L1 entry at an index names
 abbrev pub table_list : ℕ → ℕ → ℕ → List Use
@@ -105,6 +115,10 @@ tally_kind RefcountBlock = tally.Fixed
 -- a use as a tally counts it
 abbrev pub counted_use : Use → ClusterUse
 counted_use one = record { kind = tally_kind one.kind; clusters = one.clusters }
+
+-- a tally counted these uses, one after another
+abbrev pub CountsUses : List Use → TallyState → TallyState → Type 0
+CountsUses uses old new = CountsMore (map counted_use uses) old new
 
 -- a sink took some uses, by its own relation: these ones, where the storage's bytes are known
 pub record Took {Sink : Type 0} (takes : List Use → Sink → Sink → Type 0) (image : StorageState) (meaning : Image → List Use) (old new : Sink) : Type 0 where

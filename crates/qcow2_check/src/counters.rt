@@ -20,6 +20,9 @@ use std::marker::Model;
 // the refcounts that were read alone cost as much as it.
 const BYTES_EACH: usize = 4096;
 
+// The number of refcounts that are tested as one group.
+const TOGETHER: usize = 64;
+
 /// A reader of an image's refcounts. It holds the refcount table and caches at most one refcount block.
 /// Contracts see the header, the table's entries and the cached block.
 #[derive(Drop)]
@@ -150,6 +153,68 @@ fn keep_block<S: Storage>(
     }
 }
 
+/// Whether 64 refcounts of a block from an index on are 0. Tests each, so that the compiler can compare
+/// several at once.
+pub(crate) fn are_zero(block: &RefBlock, first: usize) -> bool
+    requires { first + 64 ≤ length block.now.numbers }
+    ensures { IsTrue result → (k : ℕ) → k < 64 → slice_index block.now.numbers (first + k) ≡ 0 }
+{
+    prove!(first < block.entries());
+    let mut zero = true;
+    for k in 0..TOGETHER {
+        zero &= block.is_zero(first + k);
+    }
+    zero
+}
+
+// Returns a number of refcounts of a block from an index on, at most `count`, that are 0. Tests whole groups,
+// so more may be 0.
+fn zero_groups(block: &RefBlock, first: usize, count: usize) -> usize
+    requires { first + count ≤ length block.now.numbers }
+    ensures within { result ≤ count }
+    ensures zero { (k : ℕ) → k < result → slice_index block.now.numbers (first + k) ≡ 0 }
+{
+    prove!(count <= block.entries());
+    for group in 0..count / TOGETHER {
+        if !are_zero(block, first + TOGETHER * group) {
+            return TOGETHER * group;
+        }
+    }
+    count / TOGETHER * TOGETHER
+}
+
+// The same, and then up to one more group, one by one. More may be 0.
+fn zero_counters(block: &RefBlock, first: usize, count: usize) -> usize
+    requires { first + count ≤ length block.now.numbers }
+    ensures within { result ≤ count }
+    ensures zero { (k : ℕ) → k < result → slice_index block.now.numbers (first + k) ≡ 0 }
+{
+    prove!(count <= block.entries());
+    let groups = zero_groups(block, first, count);
+    let end = count.min(groups + TOGETHER);
+    for k in groups..end {
+        if !block.is_zero(first + k) {
+            return k;
+        }
+    }
+    end
+}
+
+// Returns a number of refcounts just before an index of a block that are 0. Tests whole groups, so more may
+// be 0.
+fn zeros_before(block: &RefBlock, end: usize) -> usize
+    requires { end ≤ length block.now.numbers }
+    ensures within { result ≤ end }
+    ensures zero { (k : ℕ) → end ≤ k + result → k < end → slice_index block.now.numbers k ≡ 0 }
+{
+    for group in 0..end / TOGETHER {
+        if !are_zero(block, end - TOGETHER * (group + 1)) {
+            return TOGETHER * group;
+        }
+    }
+    end / TOGETHER * TOGETHER
+}
+
 /// Returns the first cluster after all those that the named refcount blocks count, or 0 if the refcount table
 /// names no block.
 #[tactic(auto, using(crate::proofs::CountersLemmas::ends_of_blocks))]
@@ -171,7 +236,7 @@ impl<'a> Counters<'a> {
     ghost use Rattle.std.specs.Prelude.{◌≡◌, ℕ, ◌+◌, ◌-◌, ◌%◌, ◌<◌, ◌≤◌, None, Some, IfOk, IfSome, IsSomeAnd, IsTrue, is_some, length, slice_index};
     ghost use Rattle.qcow2_base.specs.Format.{max_file_length, most_reftable_entries};
     ghost use Rattle.qcow2_base.specs.Storage.{Image};
-    ghost use Rattle.qcow2_check.specs.Counters.{IsCountedEnd, block_of_cluster, blocks_fault, counter_of, counters_each, placed_reftable};
+    ghost use Rattle.qcow2_check.specs.Counters.{AreFree, IsCountedEnd, block_of_cluster, blocks_fault, counter_of, counters_each, placed_reftable};
 
     /// Reads the refcount table of an image with this header. Returns the table's fault if it is refused,
     /// else 21 if a block that it names would end past 2^56. Changes no byte.
@@ -263,6 +328,54 @@ impl<'a> Counters<'a> {
             return u64::MAX;
         }
         cluster.0 - index as u64 + self.header.rb_entries() as u64
+    }
+
+    // The number of clusters from one on, at most `count`, whose refcounts are 0 by the cached block. Returns
+    // 0 unless that block counts the first of them, and goes no further than it.
+    fn cached_zeros(&self, from: HostCluster, count: u64) -> u64
+        ensures within { result ≤ count }
+        ensures zero { (image : Image) → IsKeptBlockOf self.now.header image self.now.block →
+            AreFree self.now image from.0 (from.0 + result) }
+    {
+        let Some(block) = self.kept_for(from) else {
+            return 0;
+        };
+        let index = from.rb_index(self.header.rb_bits());
+        prove!(index < block.entries());
+        let left = (block.entries() - index) as u64;
+        zero_counters(block, index, count.min(left) as usize) as u64
+    }
+
+    /// A cluster before which, from `from` on, all refcounts are 0, as far as the refcount table and the
+    /// cached block show it. At most `limit`. Its own refcount may be 0 too.
+    #[tactic(auto, using(crate::proofs::CountersLemmas::no_block_is_free))]
+    pub fn free_end(&self, from: HostCluster, limit: u64) -> u64
+        requires some { from.0 ≤ limit }
+        requires fits { from.0 < max_file_length }
+        ensures from { from.0 ≤ result }
+        ensures within { result ≤ limit }
+        ensures free { (image : Image) → IsKeptBlockOf self.now.header image self.now.block →
+            AreFree self.now image from.0 result }
+    {
+        if !self.has_block(from) {
+            return self.block_end(from).min(limit);
+        }
+        from.0 + self.cached_zeros(from, limit - from.0)
+    }
+
+    /// A cluster from which on, to before `end`, all refcounts are 0, as far as the cached block shows it.
+    /// The refcount of the cluster before it may be 0 too. Returns `end` unless that block counts it.
+    pub fn free_start(&self, end: HostCluster) -> u64
+        ensures within { result ≤ end.0 }
+        ensures free { (image : Image) → IsKeptBlockOf self.now.header image self.now.block →
+            AreFree self.now image result end.0 }
+    {
+        let Some(block) = self.kept_for(end) else {
+            return end.0;
+        };
+        let index = end.rb_index(self.header.rb_bits());
+        prove!(index < block.entries());
+        end.0 - zeros_before(block, index) as u64
     }
 
     /// The first cluster that the block of this cluster counts, or would count if there were one.

@@ -1,9 +1,10 @@
 //! A tally as a sink of the walk: it counts the references that it takes.
 
-ghost use Rattle.std.specs.Prelude.{◌≡◌, ℕ, ◌+◌, ◌-◌, ◌*◌, ◌^◌, ◌<◌, ◌≤◌, [], ◌∷◌, false, is_some, IfSome, IsOkUnless, IsTrue, None, OnOk, flat_map, length, map};
+ghost use Rattle.std.specs.Prelude.{◌≡◌, ℕ, ◌+◌, ◌-◌, ◌*◌, ◌^◌, ◌<◌, ◌≤◌, [], ◌∷◌, false, is_some, IfSome, IsOkUnless, IsTrue, None, Some, OnOk, flat_map, length, slice_index};
 ghost use Rattle.std.proofs.Common.{arith};
 ghost use Rattle.std.proofs.lemmas.Grind.{fold-append};
 ghost use Rattle.std.proofs.lemmas.List.{map-append};
+ghost use Rattle.qcow2_base.specs.Format.{most_l1_entries};
 ghost use Rattle.qcow2_base.specs.Storage.{OnImage};
 ghost use Rattle.qcow2_base.specs.declared.fault.Fault.TheVariants.{NoMemory};
 ghost use Rattle.qcow2_metadata.specs.Entries.L2Entry.{allocation, l2_fault};
@@ -11,17 +12,20 @@ ghost use Rattle.qcow2_base.specs.Types.{IsClusterBits};
 ghost use Rattle.qcow2_metadata.specs.Header.{geometry, geometry_of};
 ghost use Rattle.qcow2_metadata.specs.Results.{Reads};
 ghost use Rattle.qcow2_metadata.specs.Table.{IsEntryFault};
+ghost use Rattle.qcow2_check.specs.Flags.{AreMarksOf};
+ghost use Rattle.qcow2_check.specs.NamedTables.{IsInImage, named_cluster};
 ghost use Rattle.qcow2_check.specs.Tally.{CountsGroup, CountsMore, used_clusters};
-ghost use Rattle.qcow2_check.specs.Uses.{all_load, entry_uses, image_uses};
-ghost use Rattle.qcow2_check.specs.Walk.{counted_use, tally_kind};
+ghost use Rattle.qcow2_check.specs.Uses.{all_load, entry_uses, image_uses, l1_entry_loads};
+ghost use Rattle.qcow2_check.specs.Walk.{CountsUses, Took, guest_list, l1_list, tally_kind};
 
+use crate::flags::Marks;
 use crate::groups::{TOGETHER, are_unallocated, entry_at, row_at};
 use crate::image_tables::ImageTables;
-use crate::named_tables::named_cluster;
+use crate::named_tables::{load_l2_table, named_cluster};
 use crate::tally::{Tally, TallyKind};
 use crate::use_sink::UseSink;
 use crate::uses::{Use, UseKind};
-use crate::walk::walk_uses;
+use crate::walk::walk_tables;
 use qcow2_base::{ClusterCount, Fault, HostCluster, Storage, field};
 use qcow2_metadata::{L2Entry, L2Table, Table, TableEntry};
 
@@ -173,7 +177,7 @@ impl UseKind {
 }
 
 impl UseSink for Tally {
-    ghost takes = { λ uses old new. CountsMore (map counted_use uses) old new };
+    ghost takes = { CountsUses };
 
     fn take(&mut self, used: Use) -> Result<(), Fault> {
         let (kind, clusters) = (used.kind.tally_kind(), used.clusters);
@@ -206,10 +210,88 @@ pub(crate) fn most_uses(tables: &ImageTables<'_>) -> u64 {
         .saturating_add(3)
 }
 
-/// Counts all references of an image to clusters.
-#[tactic(auto, using(crate::proofs::CountingLemmas::first_kept))]
+// Counts the references of the L2 table at a cluster, which the L1 entry at an index names, and notes the
+// flags of both.
+fn count_table<S: Storage>(
+    tally: &mut Tally,
+    marks: &mut Marks,
+    image: &mut S,
+    tables: &ImageTables<'_>,
+    index: usize,
+    cluster: HostCluster,
+) -> Result<(), Fault>
+    requires cluster { IsInImage tables.now.header.v2.cluster_bits cluster }
+    requires named { named_cluster tables.now.header.v2.cluster_bits (slice_index tables.now.l1 index)
+        ≡ Some cluster }
+    requires index { index < most_l1_entries }
+    ensures reads { Reads (λ done. done) result
+        (λ bytes. l1_entry_loads (geometry_of tables.now.header) bytes (slice_index tables.now.l1 index))
+        IsEntryFault (S.state image.old) (S.state image.new) }
+    ensures taken { OnOk result (Took CountsUses (S.state image.old)
+        (λ bytes. l1_list (geometry_of tables.now.header) bytes index (slice_index tables.now.l1 index))
+        tally.old tally.new) }
+    ensures marks { OnImage (S.state image.old) (λ bytes.
+        AreMarksOf tables.now bytes marks.old → AreMarksOf tables.now bytes marks.new) }
+{
+    let alloc = tables.l1_table.allocator();
+    let table = load_l2_table(alloc, image, tables.header, cluster)?;
+    tally.take_table(&table, index)?;
+    marks.pass_table(tables.l1_table, index, cluster, &table);
+    Ok(())
+}
+
+// Counts the references of the L2 table that an L1 entry names, and notes the flags of both.
+fn count_l1_entry<S: Storage>(
+    tally: &mut Tally,
+    marks: &mut Marks,
+    image: &mut S,
+    tables: &ImageTables<'_>,
+    index: usize,
+) -> Result<(), Fault>
+    requires { index < most_l1_entries }
+    ensures reads { Reads (λ done. done) result
+        (λ bytes. l1_entry_loads (geometry_of tables.now.header) bytes (slice_index tables.now.l1 index))
+        IsEntryFault (S.state image.old) (S.state image.new) }
+    ensures taken { OnOk result (Took CountsUses (S.state image.old)
+        (λ bytes. l1_list (geometry_of tables.now.header) bytes index (slice_index tables.now.l1 index))
+        tally.old tally.new) }
+    ensures marks { OnImage (S.state image.old) (λ bytes.
+        AreMarksOf tables.now bytes marks.old → AreMarksOf tables.now bytes marks.new) }
+{
+    match named_cluster(tables.l1_table, index) {
+        Some(cluster) => count_table(tally, marks, image, tables, index, cluster),
+        None => {
+            marks.pass_unnamed(index);
+            Ok(())
+        }
+    }
+}
+
+// Counts the references of all L2 entries, in the order of the guest's disk, and notes the flags.
+fn count_guest<S: Storage>(
+    tally: &mut Tally,
+    marks: &mut Marks,
+    image: &mut S,
+    tables: &ImageTables<'_>,
+) -> Result<(), Fault>
+    ensures reads { Reads (λ done. done) result (all_load (geometry_of tables.now.header) tables.now.l1)
+        IsEntryFault (S.state image.old) (S.state image.new) }
+    ensures taken { OnOk result (Took CountsUses (S.state image.old) (guest_list tables.now)
+        tally.old tally.new) }
+    ensures marks { OnImage (S.state image.old) (λ bytes.
+        AreMarksOf tables.now bytes marks.old → AreMarksOf tables.now bytes marks.new) }
+{
+    for index in 0..tables.l1_table.entries() {
+        count_l1_entry(tally, marks, image, tables, index)?;
+    }
+    Ok(())
+}
+
+/// Counts all references of an image to clusters, and notes which of the first L1 entries and their L2 tables
+/// have no wrong flag.
 pub(crate) fn count_image<S: Storage>(
     tally: &mut Tally,
+    marks: &mut Marks,
     image: &mut S,
     tables: &ImageTables<'_>,
 ) -> Result<(), Fault>
@@ -218,6 +300,9 @@ pub(crate) fn count_image<S: Storage>(
     ensures counted { OnOk result (OnImage (S.state image.old) (λ bytes.
         CountsMore (image_uses tables.now bytes) tally.old tally.new)) }
     ensures first { OnOk result (tally.new.first ≡ tally.old.first) }
+    ensures marks { OnImage (S.state image.old) (λ bytes.
+        AreMarksOf tables.now bytes marks.old → AreMarksOf tables.now bytes marks.new) }
 {
-    walk_uses(tables, image, tally)
+    walk_tables(tables, tally)?;
+    count_guest(tally, marks, image, tables)
 }

@@ -11,8 +11,9 @@ ghost use Rattle.qcow2_check.specs.Tally.{cell_at, is_shared_cell};
 ghost use Rattle.qcow2_check.specs.Uses.{all_load, image_tables};
 
 use crate::counters::Counters;
-use crate::flags::Flags;
+use crate::flags::{Flags, Marks};
 use crate::image_tables::{ImageTables, OpenTables, open_tables};
+use crate::soles::Soles;
 use crate::tally::{Tally, count_of, is_shared};
 use crate::windows::Windows;
 use qcow2_base::{Fault, HostCluster, MAX_FILE_LENGTH, Storage};
@@ -60,14 +61,15 @@ impl Finding {
 }
 
 /// A reader of an image's findings, one after another. It holds the L1 table, the refcount table, a refcount
-/// block and the reference counts of some of the image's clusters. Contracts see these and the cluster that
-/// the reader has reached.
+/// block, the reference counts of some of the image's clusters, and what their count found out about copied
+/// flags. Contracts see these and the cluster that the reader has reached.
 #[derive(Drop)]
 pub struct Findings<'a> {
     header: &'a Header,
     l1_table: L1Table,
     counters: Counters<'a>,
     tally: Option<Tally>,
+    marks: Marks,
     position: u64,
     windows: Windows,
 }
@@ -87,6 +89,7 @@ impl<'a> Model for Findings<'a> {
       l1 = f.l1_table.numbers;
       counters = f.counters;
       tally = f.tally;
+      marks = f.marks;
       position = f.position;
     } };
 
@@ -195,19 +198,24 @@ impl<'a> Findings<'a> {
         ensures reader { IfOk result (λ findings. OnImage (S.state image.old) (λ bytes.
             IsFindingsOf bytes findings)) }
     {
-        let OpenTables { l1_table, counters } = open_tables(alloc, image, header)?;
+        let OpenTables {
+            l1_table,
+            mut counters,
+        } = open_tables(alloc, image, header)?;
+        let mut marks = Marks::new(Soles::load(alloc, image, &mut counters)?);
         let tables = ImageTables {
             header,
             l1_table: &l1_table,
             reftable: counters.reftable(),
         };
         let mut windows = Windows::new(&tables);
-        let tally = windows.count(image, &tables, 0)?;
+        let tally = windows.count_and_mark(image, &tables, 0, &mut marks)?;
         Ok(Findings {
             header,
             l1_table,
             counters,
             tally: Some(tally),
+            marks,
             position: 0,
             windows,
         })
@@ -243,7 +251,7 @@ impl<'a> Findings<'a> {
           header = self.entry.header;
           l1 = self.entry.l1;
           counters = self.entry.counters;
-          soles = [];
+          marks = self.entry.marks;
           index = 0;
           table = None;
           position = 0;
@@ -251,7 +259,7 @@ impl<'a> Findings<'a> {
         ensures left { (image : Image) → flags_left result image ≡ image_flags (tables_of self.entry) image }
         ensures reader { (image : Image) → IsFindingsOf image self.entry → IsFlagsOf image result }
     {
-        Flags::new(self.header, self.l1_table, self.counters)
+        Flags::new(self.header, self.l1_table, self.counters, self.marks)
     }
 
     /// The L1 table and the refcount table of the image, and the last counted references if any are held.
@@ -321,6 +329,10 @@ impl<'a> Findings<'a> {
             AreRight (tables_of self.now) image self.now.position result }
     {
         let tally = self.tally.as_ref().unwrap();
+        if !tally.is_dense(self.position) {
+            let next = tally.next_used(self.position, tally.end());
+            return self.counters.free_end(HostCluster(self.position), next);
+        }
         if let Some(block) = self.counters.kept_for(HostCluster(self.position)) {
             let index = HostCluster(self.position).rb_index(self.header.rb_bits());
             prove!(index < block.entries());
@@ -328,11 +340,10 @@ impl<'a> Findings<'a> {
             let count = left.min(block.entries() - index);
             return self.position + right_clusters(block, tally, self.position, index, count) as u64;
         }
-        if self.counters.has_block(HostCluster(self.position)) {
-            return self.position;
-        }
-        let limit = self.counters.block_end(HostCluster(self.position));
-        tally.next_used(self.position, limit.min(tally.end()))
+        let free = self
+            .counters
+            .free_end(HostCluster(self.position), tally.end());
+        tally.next_used(self.position, free)
     }
 
     // Moves the reader past a counted cluster that may be wrong, and returns the cluster's finding if it is.

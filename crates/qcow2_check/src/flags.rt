@@ -11,11 +11,15 @@ ghost use Rattle.qcow2_check.specs.Counters.{IsKeptBlockOf, IsSameButBlock, coun
 ghost use Rattle.qcow2_check.specs.Flags.{HasNoFlag, TakesFlag, data_counter, flagged_cluster, l2_flag, l2_flags_from, wrong_flag};
 ghost use Rattle.qcow2_check.specs.Soles.{AreSoles};
 
+mod marks;
+
 use crate::counters::Counters;
-use crate::groups::{TOGETHER, are_unallocated, cluster_at, entry_at, row_at};
+use crate::groups::TOGETHER;
 use crate::named_tables::{load_l2_table, named_cluster};
 use crate::soles::Soles;
-use qcow2_base::{Fault, GuestCluster, GuestOffset, HostCluster, Storage, field};
+pub(crate) use marks::Marks;
+use marks::starts_right;
+use qcow2_base::{Fault, GuestCluster, GuestOffset, HostCluster, Storage};
 use qcow2_metadata::{Header, L1Table, L2Entry, L2Table, Table, TableEntry};
 use std::marker::Model;
 
@@ -42,17 +46,15 @@ pub struct WrongFlag {
 }
 
 /// A reader of an image's wrong copied flags, one after another: in the order of L1 entries, each followed by
-/// the flags of its L2 table. It holds the L1 table, the refcount table, a refcount block, an L2 table, and a
-/// mark for each cluster whose refcount is known to be 1. Contracts see these and the entry that the reader
-/// has reached.
+/// the flags of its L2 table. It holds the L1 table, the refcount table, a refcount block, an L2 table, and
+/// what is known of flags before each is tested. Contracts see these and the entry that the reader has
+/// reached.
 #[derive(Drop)]
 pub struct Flags<'a> {
     header: &'a Header,
     l1_table: L1Table,
     counters: Counters<'a>,
-    soles: Soles,
-    // Whether the clusters are marked.
-    is_marked: bool,
+    marks: Marks,
     index: usize,
     table: Option<L2Table>,
     position: usize,
@@ -71,7 +73,7 @@ impl<'a> Model for Flags<'a> {
       header = f.header.now;
       l1 = f.l1_table.numbers;
       counters = f.counters;
-      soles = f.soles;
+      marks = f.marks;
       index = f.index;
       table = f.table;
       position = f.position;
@@ -182,70 +184,6 @@ fn entry_flag<S: Storage>(
     Ok(wrong_flag(place, cluster, counter, entry.is_copied()))
 }
 
-// Whether an entry is compressed or names no cluster, or its copied flag is set and its cluster's refcount is
-// known to be 1.
-#[inline(always)]
-#[tactic(auto, using(crate::proofs::FlagsLemmas::sole_is_right, crate::proofs::FlagsLemmas::other_is_right))]
-fn is_right(soles: &Soles, entry: L2Entry, cluster_bits: u32) -> bool
-    requires { IsClusterBits cluster_bits }
-    ensures { IsTrue result → HasNoFlag (geometry cluster_bits false) soles.now entry }
-{
-    let has_none = entry.is_compressed() | (field(entry.to_plain(), 9, 47) == 0);
-    let is_sole = soles.has(cluster_at(entry, cluster_bits));
-    has_none | (entry.is_copied() & is_sole)
-}
-
-// Whether `is_right` holds for the `TOGETHER` entries from an index on. Tests all of them, since the
-// processor couldn't predict a branch.
-#[inline(always)]
-fn are_right(soles: &Soles, table: &L2Table, first: usize) -> bool
-    requires group { first + 16 ≤ length table.now.numbers }
-    ensures { IsTrue result → table.now.geometry.external_data_file ≡ false → (k : ℕ) → k < 16 →
-        HasNoFlag table.now.geometry soles.now (slice_index table.now.numbers (first + k)) }
-{
-    prove!(first < table.entries());
-    let cluster_bits = table.cluster_bits();
-    let mut right = true;
-    for k in 0..TOGETHER {
-        right &= is_right(soles, entry_at(table, first + k), cluster_bits);
-    }
-    right
-}
-
-// Whether the `TOGETHER` entries from an index on are a row whose clusters are all marked.
-#[inline(always)]
-#[tactic(auto, using(crate::proofs::FlagsLemmas::sole_is_right))]
-fn is_right_row(soles: &Soles, table: &L2Table, first: usize) -> bool
-    requires group { first + 16 ≤ length table.now.numbers }
-    ensures { IsTrue result → table.now.geometry.external_data_file ≡ false → (k : ℕ) → k < 16 →
-        HasNoFlag table.now.geometry soles.now (slice_index table.now.numbers (first + k)) }
-{
-    match row_at(table, first) {
-        Some(start) => soles.has_whole(start),
-        None => false,
-    }
-}
-
-// Whether the entry at an index begins a group of `TOGETHER` entries whose copied flags are all right. May
-// return false for right ones, as when their refcounts aren't marked.
-#[inline]
-#[tactic(auto, using(crate::proofs::FlagsLemmas::nothing_has_no_flag))]
-fn starts_right(soles: &Soles, table: &L2Table, index: usize) -> bool
-    requires index { index < length table.now.numbers }
-    ensures { IsTrue result → (index + 16 ≤ length table.now.numbers)
-        × ((k : ℕ) → k < 16 →
-        HasNoFlag table.now.geometry soles.now (slice_index table.now.numbers (index + k))) }
-{
-    if index % TOGETHER != 0 || table.entries() - index < TOGETHER {
-        return false;
-    }
-    if are_unallocated(table, index) {
-        return true;
-    }
-    !table.external_data_file()
-        && (is_right_row(soles, table, index) || are_right(soles, table, index))
-}
-
 // The next wrong flag in an L2 table, from the entry at `position` on. Moves `position` past its entry, or to
 // the table's end.
 fn next_in_table<S: Storage>(
@@ -295,9 +233,14 @@ impl<'a> Flags<'a> {
     ghost use Rattle.qcow2_check.specs.Findings.{IsLaterFault};
     ghost use Rattle.qcow2_check.specs.Flags.{GoesFurther, IsFlagsOf, MovesFlags, PassesFlag, StepsFurther, TakesFlag, flags_left};
 
-    /// A reader before the first wrong flag. The L1 table and the refcounts must be those of one image with
-    /// this header.
-    pub(crate) fn new(header: &'a Header, l1_table: L1Table, counters: Counters<'a>) -> Flags<'a>
+    /// A reader before the first wrong flag. The L1 table, the refcounts and the marks must be those of one
+    /// image with this header.
+    pub(crate) fn new(
+        header: &'a Header,
+        l1_table: L1Table,
+        counters: Counters<'a>,
+        marks: Marks,
+    ) -> Flags<'a>
         requires geometry { l1_table.geometry ≡ geometry_of header.now }
         requires entries { length l1_table.numbers ≤ most_l1_entries }
         requires counters { counters.header ≡ header.now }
@@ -305,19 +248,17 @@ impl<'a> Flags<'a> {
           header = header.now;
           l1 = l1_table.numbers;
           counters = counters.entry;
-          soles = [];
+          marks = marks;
           index = 0;
           table = None;
           position = 0;
         } }
     {
-        let soles = Soles::none(l1_table.allocator());
         Flags {
             header,
             l1_table,
             counters,
-            soles,
-            is_marked: false,
+            marks,
             index: 0,
             table: None,
             position: 0,
@@ -337,7 +278,6 @@ impl<'a> Flags<'a> {
         ensures fault { IfErr result (IsLaterFault (S.state image.old)) }
         ensures storage { OnlyReads result (S.state image.old) (S.state image.new) }
     {
-        self.mark_soles(image)?;
         while self.index < self.l1_table.entries() {
             if let Some(flag) = self.step(image)? {
                 return Ok(Some(flag));
@@ -351,25 +291,6 @@ impl<'a> Flags<'a> {
         ensures { result ≡ self.entry.counters }
     {
         self.counters
-    }
-
-    // Marks the clusters whose refcount is 1, unless they are marked.
-    fn mark_soles<S: Storage>(&mut self, image: &mut S) -> Result<(), Fault>
-        requires reader { OnImage (S.state image.old) (λ bytes. IsFlagsOf bytes self.old) }
-        ensures same { self.new ≡ record self.old {
-          counters = self.new.counters;
-          soles = self.new.soles;
-        } }
-        ensures reader { MovesFlags (S.state image.old) self.old self.new }
-        ensures fault { IfErr result IsFromOutside }
-        ensures storage { OnlyReads result (S.state image.old) (S.state image.new) }
-    {
-        if !self.is_marked {
-            let alloc = self.l1_table.allocator();
-            self.soles = Soles::load(alloc, image, &mut self.counters)?;
-            self.is_marked = true;
-        }
-        Ok(())
     }
 
     // Opens the L2 table of the reader's L1 entry, or goes on within it if it is open.
@@ -405,7 +326,7 @@ impl<'a> Flags<'a> {
         let table = self.table.as_ref().unwrap();
         let found = next_in_table(
             &mut self.counters,
-            &self.soles,
+            self.marks.soles(),
             image,
             table,
             self.index,
@@ -420,7 +341,7 @@ impl<'a> Flags<'a> {
     }
 
     // Opens the L2 table of the reader's L1 entry, and returns the entry's own copied flag if it is wrong.
-    // Skips an entry that names no table.
+    // Skips an entry that names no table, and one that is known to be clean.
     fn open_table<S: Storage>(&mut self, image: &mut S) -> Result<Option<WrongFlag>, Fault>
         requires table { self.old.table ≡ None }
         requires index { self.old.index < length self.old.l1 }
@@ -432,6 +353,10 @@ impl<'a> Flags<'a> {
         ensures fault { IfErr result (IsLaterFault (S.state image.old)) }
         ensures storage { OnlyReads result (S.state image.old) (S.state image.new) }
     {
+        if self.index < self.marks.clean() {
+            self.index += 1;
+            return Ok(None);
+        }
         let Some(cluster) = named_cluster(&self.l1_table, self.index) else {
             self.index += 1;
             return Ok(None);

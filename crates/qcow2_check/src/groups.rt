@@ -1,6 +1,6 @@
 //! Groups of entries of an L2 table that are tested at once.
 
-ghost use Rattle.std.specs.Prelude.{◌≡◌, ℕ, ◌+◌, ◌/◌, ◌^◌, ◌<◌, ◌≤◌, IfSome, IsTrue, None, length, slice_index};
+ghost use Rattle.std.specs.Prelude.{◌≡◌, ℕ, ◌+◌, ◌/◌, ◌^◌, ◌<◌, ◌≤◌, IfSome, IsTrue, None, false, length, slice_index};
 ghost use Rattle.qcow2_base.specs.Types.{IsClusterBits};
 ghost use Rattle.qcow2_metadata.specs.Entries.{offset_field};
 ghost use Rattle.qcow2_metadata.specs.Entries.L2Entry.{l2_fault};
@@ -91,4 +91,39 @@ pub(crate) fn row_at(table: &L2Table, first: usize) -> Option<HostCluster>
     // Usually the last entry alone shows whether they are consecutive.
     let is_row = start.0 > 0 && last.0 == start.0 + 15 && are_copied_from(table, first, start);
     is_row.then_some(start)
+}
+
+// Whether a group of `TOGETHER` entries begins at an index.
+#[inline(always)]
+fn starts_group(table: &L2Table, index: usize) -> bool
+    requires { index < length table.now.numbers }
+    ensures { IsTrue result → index + 16 ≤ length table.now.numbers }
+{
+    index % TOGETHER == 0 && table.entries() - index >= TOGETHER
+}
+
+/// Whether the entry at an index begins a group of `TOGETHER` entries that are all 0.
+#[inline(always)]
+pub(crate) fn starts_unallocated(table: &L2Table, index: usize) -> bool
+    requires { index < length table.now.numbers }
+    ensures { IsTrue result → (index + 16 ≤ length table.now.numbers)
+        × ((k : ℕ) → k < 16 → slice_index table.now.numbers (index + k) ≡ 0) }
+{
+    starts_group(table, index) && are_unallocated(table, index)
+}
+
+/// The cluster of the entry at an index, if it begins a group of `TOGETHER` entries that are a row, and guest
+/// data lies in the image.
+#[inline(always)]
+pub(crate) fn starts_row(table: &L2Table, index: usize) -> Option<HostCluster>
+    requires { index < length table.now.numbers }
+    ensures row { IfSome result (λ start. (index + 16 ≤ length table.now.numbers)
+        × (table.now.geometry.external_data_file ≡ false)
+        × IsRow table.now.geometry.cluster_bits table.now.numbers index start.0) }
+    ensures fits { IfSome result (λ start. start.0 < 2 ^ 56) }
+{
+    if table.external_data_file() || !starts_group(table, index) {
+        return None;
+    }
+    row_at(table, index)
 }

@@ -1,9 +1,9 @@
 //! Marks of the clusters whose refcount is 1, so that copied flags can be tested in any order of clusters.
 
-ghost use Rattle.std.specs.Prelude.{◌≡◌, ℕ, ◌+◌, ◌<◌, ◌≤◌, IsTrue, length, slice_index};
+ghost use Rattle.std.specs.Prelude.{◌≡◌, ℕ, ◌+◌, ◌^◌, ◌<◌, ◌≤◌, IsTrue, length, slice_index};
 ghost use Rattle.qcow2_check.specs.Soles.{MarksOnes};
 
-use crate::counters::Counters;
+use crate::counters::{Counters, are_zero};
 use qcow2_base::{Fault, HostCluster, Storage};
 use qcow2_metadata::{RefBlock, Table};
 use std::alloc::Global;
@@ -14,6 +14,13 @@ const EACH: usize = 64;
 
 // The most clusters that are marked: those of 4 TiB in clusters of 64 KiB, whose marks take 8 MiB.
 const MOST_MARKS: u64 = 1 << 26;
+
+/// The most bytes that the marks of an image's clusters take, given how many its refcount blocks count.
+pub(crate) fn most_mark_bytes(counted: u64) -> usize
+    ensures { result ≤ 2 ^ 23 }
+{
+    (counted.min(MOST_MARKS).div_ceil(EACH as u64) * 8) as usize
+}
 
 /// Marks of an image's first clusters, a bit for each: 1 if its refcount is known to be 1. Contracts see the
 /// words that hold them.
@@ -51,6 +58,9 @@ fn ones(block: &RefBlock, first: usize) -> u64
 {
     if are_one(block, first) {
         return u64::MAX;
+    }
+    if are_zero(block, first) {
+        return 0;
     }
     prove!(first < block.entries());
     let mut word = 0;

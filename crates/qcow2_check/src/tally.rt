@@ -94,7 +94,7 @@ impl Model for Tally {
 }
 
 impl Tally {
-    ghost use Rattle.std.specs.Prelude.{◌≡◌, ◌+◌, ◌-◌, ◌^◌, ◌<◌, ◌≤◌, [], ◌∷◌, length, replicate};
+    ghost use Rattle.std.specs.Prelude.{◌≡◌, ◌↔◌, ◌+◌, ◌-◌, ◌^◌, ◌<◌, ◌≤◌, [], ◌∷◌, IsTrue, length, replicate};
     ghost use Rattle.qcow2_check.specs.Tally.{IsTally, cell_at, dense_end};
 
     /// A tally from a cluster on, in which no cluster has a reference. The next `dense` clusters have
@@ -145,6 +145,15 @@ impl Tally {
         self.dense.used().saturating_add(self.sparse.len())
     }
 
+    /// Whether a cluster has one of the consecutive cells. Those of all later ones are in the map.
+    #[inline]
+    pub fn is_dense(&self, cluster: u64) -> bool
+        requires { self.now.first ≤ cluster }
+        ensures { IsTrue result ↔ (cluster < dense_end self.now) }
+    {
+        cluster - self.first < self.dense.len() as u64
+    }
+
     /// The cell of a cluster.
     #[inline]
     pub fn cell(&self, cluster: u64) -> u64
@@ -176,7 +185,7 @@ impl Tally {
     }
 
     /// The first cluster from `from` on that has a reference, or `limit` if none before it has.
-    pub(crate) fn next_used(&self, from: u64, limit: u64) -> u64
+    pub fn next_used(&self, from: u64, limit: u64) -> u64
         requires from { self.now.first ≤ from }
         requires some { from ≤ limit }
         ensures from { from ≤ result }

@@ -1,6 +1,6 @@
 //! The choice of the clusters whose references are counted at once.
 
-ghost use Rattle.std.specs.Prelude.{◌≡◌, ◌+◌, ◌*◌, ◌<◌, ◌≤◌, IfOk, false};
+ghost use Rattle.std.specs.Prelude.{◌≡◌, ◌+◌, ◌*◌, ◌^◌, ◌<◌, ◌≤◌, IfOk, false};
 ghost use Rattle.qcow2_base.specs.Format.{max_file_length};
 ghost use Rattle.qcow2_base.specs.Storage.{OnImage};
 ghost use Rattle.qcow2_metadata.specs.Header.{geometry_of};
@@ -8,12 +8,15 @@ ghost use Rattle.qcow2_metadata.specs.Results.{Reads};
 ghost use Rattle.qcow2_metadata.specs.Table.{IsEntryFault};
 ghost use Rattle.qcow2_check.specs.Counters.{IsCountedEnd};
 ghost use Rattle.qcow2_check.specs.Findings.{CountsAll};
+ghost use Rattle.qcow2_check.specs.Flags.{AreMarksOf};
 ghost use Rattle.qcow2_check.specs.Uses.{all_load};
 ghost use Rattle.qcow2_check.specs.Windows.{IsWindow, cell_bytes, most_cell_bytes};
 
 use crate::counters::counted_end;
 use crate::counting::{count_image, most_uses};
+use crate::flags::Marks;
 use crate::image_tables::ImageTables;
+use crate::soles::most_mark_bytes;
 use crate::tally::Tally;
 use qcow2_base::{Fault, MAX_FILE_LENGTH, Storage};
 use qcow2_metadata::Table;
@@ -41,17 +44,15 @@ struct Window {
     is_wide: bool,
 }
 
-// The number of dense cells in a window, given how many clusters from its first on the refcount blocks count.
-fn dense_cells(counted: u64, is_wide: bool) -> usize
+// The number of dense cells in a window, given how many clusters from its first on the refcount blocks count,
+// and how many bytes its cells may take.
+fn dense_cells(counted: u64, room: usize, is_wide: bool) -> usize
+    requires room { (2 ^ 20 ≤ room) × (room ≤ most_cell_bytes) }
     ensures some { 0 < result }
     ensures bytes { result * cell_bytes is_wide ≤ most_cell_bytes }
-    ensures all { counted * cell_bytes is_wide ≤ most_cell_bytes → counted ≤ result }
+    ensures all { counted * cell_bytes is_wide ≤ room → counted ≤ result }
 {
-    let most = if is_wide {
-        MOST_BYTES / 8
-    } else {
-        MOST_BYTES / 4
-    };
+    let most = if is_wide { room / 8 } else { room / 4 };
     counted.clamp(FEW_CELLS as u64, most as u64) as usize
 }
 
@@ -61,6 +62,8 @@ fn dense_cells(counted: u64, is_wide: bool) -> usize
 pub struct Windows {
     // The first cluster after all those that the refcount blocks count.
     counted: u64,
+    // The bytes that a decoded refcount block and the marks of clusters take beside the cells.
+    beside: usize,
     is_wide: bool,
     // Whether an earlier window had few clusters with references: later windows then use mostly the map.
     is_sparse: bool,
@@ -72,8 +75,11 @@ impl Windows {
         ensures counted { IsCountedEnd tables.now.header tables.now.reftable result.counted }
         ensures is_sparse { result.is_sparse ≡ false }
     {
+        let counted = counted_end(tables.header, tables.reftable);
+        let block_bytes = tables.header.rb_entries().max(tables.header.cluster_size());
         Windows {
-            counted: counted_end(tables.header, tables.reftable),
+            counted,
+            beside: block_bytes + most_mark_bytes(counted),
             is_wide: most_uses(tables) >= MANY_USES,
             is_sparse: false,
         }
@@ -89,7 +95,8 @@ impl Windows {
             (FEW_CELLS, MOST_SPARSE)
         } else {
             let counted = self.counted.saturating_sub(first);
-            (dense_cells(counted, self.is_wide), 0)
+            let room = MOST_BYTES - self.beside.min(MOST_BYTES / 2);
+            (dense_cells(counted, room, self.is_wide), 0)
         };
         Window {
             first,
@@ -118,6 +125,30 @@ impl Windows {
             × (tally.end ≤ max_file_length)) }
         ensures same { self.new ≡ record self.old { is_sparse = self.new.is_sparse } }
     {
+        let mut marks = Marks::none(tables.l1_table.allocator());
+        self.count_and_mark(image, tables, first, &mut marks)
+    }
+
+    /// Counts as `count` does, and notes which of the first L1 entries have no wrong flag, nor their L2
+    /// tables.
+    pub(crate) fn count_and_mark<S: Storage>(
+        &mut self,
+        image: &mut S,
+        tables: &ImageTables<'_>,
+        first: u64,
+        marks: &mut Marks,
+    ) -> Result<Tally, Fault>
+        requires { first < max_file_length }
+        ensures reads { Reads (λ _. tt) result (all_load (geometry_of tables.now.header) tables.now.l1)
+            IsEntryFault (S.state image.old) (S.state image.new) }
+        ensures counted { IfOk result (λ tally. OnImage (S.state image.old) (λ bytes.
+            CountsAll tables.now bytes tally)) }
+        ensures first { IfOk result (λ tally. (tally.first ≡ first) × (first < tally.end)
+            × (tally.end ≤ max_file_length)) }
+        ensures same { self.new ≡ record self.old { is_sparse = self.new.is_sparse } }
+        ensures marks { OnImage (S.state image.old) (λ bytes.
+            AreMarksOf tables.now bytes marks.old → AreMarksOf tables.now bytes marks.new) }
+    {
         if first == 0 {
             self.is_sparse = false;
         }
@@ -129,7 +160,7 @@ impl Windows {
         } = self.at(first);
         let alloc = tables.l1_table.allocator();
         let mut tally = Tally::new(alloc, first, dense, most, is_wide)?;
-        count_image(&mut tally, image, tables)?;
+        count_image(&mut tally, marks, image, tables)?;
         prove!(first < tally.end());
         // Counting the cells takes long, so do it only if there are later windows.
         self.is_sparse |= tally.end() < MAX_FILE_LENGTH && tally.used() < MOST_SPARSE;

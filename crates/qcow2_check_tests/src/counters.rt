@@ -121,3 +121,47 @@ fn copied_flags_of_blocks_in_turn_read_each_block_once(rt: HostRuntime) -> Resul
     same(found.as_slice(), &[late], "flags")?;
     same(reads_of_blocks(&image), [1, 1], "whole blocks")
 }
+
+// An offset in the L2 table that only a read of the whole table reaches.
+const TABLE_INNER: u64 = 0x5_2000;
+
+#[derive(Clone, Copy)]
+struct TableReads {
+    name: &'static str,
+    changes: Numbers<'static>,
+    flags: usize,
+    reads: usize,
+}
+
+const TABLE_READS: &[TableReads] = &[
+    TableReads {
+        name: "no wrong flag",
+        changes: &[],
+        flags: 0,
+        reads: 1,
+    },
+    TableReads {
+        name: "a late flag of the last entry",
+        changes: &[(0x5_0038, 32771 << 16)],
+        flags: 1,
+        reads: 2,
+    },
+    TableReads {
+        name: "a false flag of the L1 entry",
+        changes: &[(BLOCKS[0] + 8, 0x0001_0002_0001_0001)],
+        flags: 1,
+        reads: 2,
+    },
+];
+
+fn check_table_reads(alloc: Global, row: TableReads) -> Result<(), Fail> {
+    let mut image = image_in_turn(alloc, row.changes)?;
+    let found = flags_of(alloc, &mut image)?;
+    same(found.len(), row.flags, row.name)?;
+    same(image.reads_of(TABLE_INNER), row.reads, row.name)
+}
+
+#[test]
+fn a_table_is_read_again_only_for_a_wrong_flag(rt: HostRuntime) -> Result<(), Fail> {
+    each(rt.alloc(), TABLE_READS, check_table_reads)
+}

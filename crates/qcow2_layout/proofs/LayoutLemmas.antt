@@ -4,7 +4,7 @@ use Rattle.std.proofs.Math.Nat.{add-mul, le-div_iff_mul-le, zero-mul}
 use Rattle.std.proofs.lemmas.Nat.{mul-le, pow_pos}
 use Rattle.qcow2_base.specs.Format.{max_file_length}
 use Rattle.qcow2_base.specs.Storage.{Image, OnImage, OnlyReads, StorageState}
-use Rattle.qcow2_check.specs.Counters.{block_of_cluster, counter_of}
+use Rattle.qcow2_check.specs.Counters.{counter_of}
 use Rattle.qcow2_summary.specs.ImageEnd.{most_clusters}
 use Rattle.qcow2_check.specs.Tally.{TallyState, cell_at}
 use Rattle.qcow2_check.specs.Uses.{ImageTables}
@@ -85,33 +85,31 @@ counted-piece reader window image from counter part has reads first end is count
     one-piece reader.header.v2.cluster_bits (parts_for reader image) from part
     (at-none (layout_tables reader) image from (sym none) ∙ ap unused_part (sym counts) ∙ sym says)
 
--- and one that has no block either is free
-free-at : (tables : ImageTables) (image : Image) (c : ℕ) → part_in (image_parts tables image) c ≡ None → block_of_cluster tables.header tables.reftable c ≡ None
-    → part_at tables image c ≡ Free
-free-at tables image c none unblocked =
-    let counter : counter_of tables.header tables.reftable image c ≡ 0 = rw (unblocked, counter_of) refl in
-    at-none tables image c none ∙ ap unused_part counter
-
+-- and clusters that have none are free where their counters are 0
 pub free-piece : (reader : LayoutState) (window : TallyState) (image : Image) (from to : ℕ) → reader.window ≡ Some window → IsLayoutOf image reader
     → window.first ≤ from → from < to → to ≤ window.end → ((found : Option Part) → cell_at window from ≡ cell_of found → None ≡ found)
     → ((c : ℕ) → from + 1 ≤ c → c < to → cell_at window c ≡ 0)
-    → ((c : ℕ) → from ≤ c → c < to → block_of_cluster reader.header reader.counters.reftable c ≡ None)
+    → counter_of reader.header reader.counters.reftable image from ≡ 0
+    → ((c : ℕ) → from + 1 ≤ c → c < to → counter_of reader.header reader.counters.reftable image c ≡ 0)
     → IsStretch reader.header.v2.cluster_bits (parts_for reader image) from (Free, to)
-free-piece reader window image from to has reads first some end is unused unblocked = (
+free-piece reader window image from to has reads first some end is unused zero zeros = (
   some,
   λ k below.
       let uses = image_parts (layout_tables reader) image in
       let placed : PlacesAll (layout_tables reader) image window = rw has at reads.placed in
       let within : from + k < to = omega (arith, below, some) in
-      let none : part_in uses (from + k) ≡ None = elim (cases_lt from (from + k)) [
-        | inl after ↦ no-use (part_in uses (from + k)) (cell_at window (from + k)) (placed (from + k) (omega (arith, first)) (omega (arith, within, end)))
-            (unused (from + k) (omega (arith, after)) within)
+      elim (cases_lt from (from + k)) [
+        | inl after ↦
+            let none : part_in uses (from + k) ≡ None =
+            no-use (part_in uses (from + k)) (cell_at window (from + k)) (placed (from + k) (omega (arith, first)) (omega (arith, within, end)))
+            (unused (from + k) (omega (arith, after)) within) in
+            at-none (layout_tables reader) image (from + k) none ∙ ap unused_part (zeros (from + k) (omega (arith, after)) within)
         | inr here ↦
             let same : from ≡ from + k = omega (arith, here) in
             let found : None ≡ part_in uses from = is (part_in uses from) (placed from first (omega (arith, some, end))) in
-            subst (λ c. part_in uses c ≡ None) same (sym found)
-      ] in
-      free-at (layout_tables reader) image (from + k) none (unblocked (from + k) (omega arith) within),
+            let free : parts_for reader image from ≡ Free = at-none (layout_tables reader) image from (sym found) ∙ ap unused_part zero in
+            subst (λ c. parts_for reader image c ≡ Free) same free
+      ],
 )
 
 -- pieces one after another, the second of which goes on from the first

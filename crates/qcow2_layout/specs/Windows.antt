@@ -5,7 +5,7 @@ use Rattle.qcow2_layout.specs.declared.windows.Size.{Size}
 
 -- how many bytes the cells take at most that lie one after another
 abbrev pub most_window_bytes : ℕ
-most_window_bytes = 64 * 2 ^ 20
+most_window_bytes = 68 * 2 ^ 20
 
 -- clusters from one on, one at least, which end by the greatest end, and have a bounded memory: that of cells of 8 bytes one
 -- after another, and of 2 ^ 20 others at most

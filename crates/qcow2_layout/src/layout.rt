@@ -15,6 +15,10 @@ use qcow2_summary::most_clusters;
 use std::alloc::Global;
 use std::marker::Model;
 
+// The number of clusters with consecutive cells whose refcounts are tested at once. Testing more would cost
+// too much if a reference comes soon.
+const TOGETHER: u64 = 64;
+
 /// A reader of an image's layout, run by run. It holds the L1 table, the refcount table, a refcount block and
 /// a window of clusters with their parts. Contracts see these and the cluster that the reader has reached.
 #[derive(Drop)]
@@ -52,12 +56,14 @@ impl<'a> Model for Layout<'a> {
 }
 
 impl<'a> Layout<'a> {
-    ghost use Rattle.std.specs.Prelude.{◌≡◌, ◌<◌, ◌≤◌, Ok, Err, IfErr, IfOk, IfSome, IsSome, IsSomeAnd, IsTrue, MatchResult, OnOk, ◌+◌, ◌↔◌};
-    ghost use Rattle.qcow2_base.specs.Storage.{OnImage, OnlyReads};
+    ghost use Rattle.std.specs.Prelude.{◌≡◌, ℕ, ◌<◌, ◌≤◌, Ok, Err, IfErr, IfOk, IfSome, IsSome, IsSomeAnd, IsTrue, MatchResult, OnOk, ◌+◌, ◌↔◌};
+    ghost use Rattle.qcow2_base.specs.Storage.{Image, OnImage, OnlyReads};
     ghost use Rattle.qcow2_base.specs.declared.fault.Fault.TheVariants.{Uncounted};
     ghost use Rattle.qcow2_metadata.specs.Header.{uncounted_part};
     ghost use Rattle.qcow2_metadata.specs.Results.{result_map};
+    ghost use Rattle.qcow2_check.specs.Counters.{AreFree};
     ghost use Rattle.qcow2_check.specs.Findings.{IsCheckFault, IsLaterFault, checked_tables};
+    ghost use Rattle.qcow2_check.specs.Tally.{cell_at};
     ghost use Rattle.qcow2_summary.specs.ImageEnd.{most_clusters};
     ghost use Rattle.qcow2_layout.specs.declared.parts.Part.TheVariants.{Free};
     ghost use Rattle.qcow2_layout.specs.Layout.{IsLayoutOf, IsStretch, IsWholeRun, MovesLayout, PassesRun, parts_for, layout_tables};
@@ -208,13 +214,35 @@ impl<'a> Layout<'a> {
         if let Some(part) = Part::of_cell(window.cell(from)) {
             return Ok((part, from + 1));
         }
-        if !self.counters.has_block(HostCluster(from)) {
-            let limit = self.counters.block_end(HostCluster(from)).min(window.end());
-            let end = limit.min(most_clusters(self.header));
-            return Ok((Part::Free, window.next_used(from + 1, end)));
-        }
         let counter = self.counters.get_in_order(image, HostCluster(from))?;
-        Ok((Part::unused(counter), from + 1))
+        if counter != 0 {
+            return Ok((Part::unused(counter), from + 1));
+        }
+        Ok((Part::Free, self.free_end(from)))
+    }
+
+    // The end of clusters from one on that are surely free, given that the first of them is.
+    fn free_end(&self, from: u64) -> u64
+        requires window { IsSomeAnd self.now.window (λ window. (window.first ≤ from)
+            × (from < window.end)) }
+        requires before { from < most_clusters self.now.header }
+        ensures some { from < result }
+        ensures within { result ≤ most_clusters self.now.header }
+        ensures window { IsSomeAnd self.now.window (λ window. result ≤ window.end) }
+        ensures unused { IsSomeAnd self.now.window (λ window. (c : ℕ) → from + 1 ≤ c → c < result →
+            cell_at window c ≡ 0) }
+        ensures free { (image : Image) → IsLayoutOf image self.now →
+            AreFree self.now.counters image (from + 1) result }
+    {
+        let window = self.window.as_ref().unwrap();
+        let end = window.end().min(most_clusters(self.header));
+        let limit = if window.is_dense(from) {
+            end.min(from + TOGETHER)
+        } else {
+            window.next_used(from + 1, end)
+        };
+        let free = self.counters.free_end(HostCluster(from), limit);
+        window.next_used(from + 1, free.max(from + 1))
     }
 
     // Whether the window holds a cluster.

@@ -47,7 +47,7 @@ impl Model for Window {
 }
 
 impl Window {
-    ghost use Rattle.std.specs.Prelude.{◌≡◌, ◌+◌, ◌<◌, ◌≤◌, length, replicate};
+    ghost use Rattle.std.specs.Prelude.{◌≡◌, ◌↔◌, ◌+◌, ◌<◌, ◌≤◌, IsTrue, length, replicate};
     ghost use Rattle.qcow2_check.specs.Tally.{cell_at, dense_end};
 
     /// A window from cluster `first` on, without references. The next `dense` clusters have consecutive
@@ -90,6 +90,15 @@ impl Window {
     pub(crate) fn used(&self) -> usize {
         let dense = self.dense.iter().filter(|cell| **cell != 0).count();
         dense.saturating_add(self.sparse.len())
+    }
+
+    /// Whether a cluster has one of the consecutive cells. Those of all later ones are in the map.
+    #[inline]
+    pub(crate) fn is_dense(&self, cluster: u64) -> bool
+        requires { self.now.first ≤ cluster }
+        ensures { IsTrue result ↔ (cluster < dense_end self.now) }
+    {
+        cluster - self.first < self.dense.len() as u64
     }
 
     /// The cell of a cluster.

@@ -1,6 +1,6 @@
 //! The choice of the clusters whose parts are held at once.
 
-ghost use Rattle.std.specs.Prelude.{◌≡◌, ◌*◌, ◌<◌, ◌≤◌, IfOk, false};
+ghost use Rattle.std.specs.Prelude.{◌≡◌, ◌*◌, ◌^◌, ◌<◌, ◌≤◌, IfOk, false};
 ghost use Rattle.qcow2_base.specs.Format.{max_file_length};
 ghost use Rattle.qcow2_base.specs.Storage.{OnImage};
 ghost use Rattle.qcow2_metadata.specs.Header.{geometry_of};
@@ -20,8 +20,9 @@ use qcow2_metadata::Table;
 // The fewest dense cells of a window.
 const FEW_CELLS: u64 = 4096;
 
-// The most dense cells, of eight bytes each: enough for 512 GiB in clusters of 64 KiB.
-const MOST_CELLS: u64 = 1 << 23;
+// The most bytes that dense cells take, together with a decoded refcount block. With blocks of 64 KiB, two
+// windows suffice for 1 TiB in clusters of 64 KiB, and its tables.
+const MOST_BYTES: u64 = 68 << 20;
 
 // The most cells in the map.
 const MOST_SPARSE: usize = 1 << 20;
@@ -33,13 +34,15 @@ struct Size {
     most: usize,
 }
 
-// The number of dense cells in a window, given how many clusters from its first on the refcount blocks count.
-fn dense_cells(counted: u64) -> usize
+// The number of dense cells in a window, given how many clusters from its first on the refcount blocks count,
+// and how many bytes its cells may take.
+fn dense_cells(counted: u64, room: u64) -> usize
+    requires room { (2 ^ 20 ≤ room) × (room ≤ most_window_bytes) }
     ensures some { 0 < result }
     ensures bytes { result * 8 ≤ most_window_bytes }
-    ensures all { counted * 8 ≤ most_window_bytes → counted ≤ result }
+    ensures all { counted * 8 ≤ room → counted ≤ result }
 {
-    counted.clamp(FEW_CELLS, MOST_CELLS) as usize
+    counted.clamp(FEW_CELLS, room / 8) as usize
 }
 
 /// The windows of an image: groups of clusters whose parts are held at once, in bounded memory. The size of
@@ -48,6 +51,8 @@ fn dense_cells(counted: u64) -> usize
 pub(crate) struct Windows {
     // The first cluster after all those that the refcount blocks count.
     counted: u64,
+    // The bytes of a decoded refcount block.
+    block_bytes: u64,
     // Whether an earlier window had few clusters with references: later windows then use mostly the map.
     is_sparse: bool,
 }
@@ -58,8 +63,10 @@ impl Windows {
         ensures counted { IsCountedEnd tables.now.header tables.now.reftable result.counted }
         ensures is_sparse { result.is_sparse ≡ false }
     {
+        let header = tables.header;
         Windows {
-            counted: counted_end(tables.header, tables.reftable),
+            counted: counted_end(header, tables.reftable),
+            block_bytes: header.rb_entries().max(header.cluster_size()) as u64,
             is_sparse: false,
         }
     }
@@ -77,8 +84,9 @@ impl Windows {
             };
         }
         let counted = self.counted.saturating_sub(first);
+        let room = MOST_BYTES - self.block_bytes.min(MOST_BYTES / 2);
         Size {
-            dense: left.min(dense_cells(counted) as u64) as usize,
+            dense: left.min(dense_cells(counted, room) as u64) as usize,
             most: 0,
         }
     }
@@ -107,7 +115,8 @@ impl Windows {
         let unused = Window::new(alloc, first, dense, most)?;
         let window = place_image(unused, image, tables)?;
         prove!(first < window.end());
-        self.is_sparse |= window.used() < MOST_SPARSE;
+        // Counting the cells takes long, so do it only if there are later windows.
+        self.is_sparse |= window.end() < MAX_FILE_LENGTH && window.used() < MOST_SPARSE;
         Ok(window)
     }
 }

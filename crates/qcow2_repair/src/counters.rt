@@ -76,6 +76,26 @@ fn pass_counter(
     Ok(())
 }
 
+// The number of references to a cluster, for clusters in ascending order. Keeps in `unused_end` an end before
+// which no cluster from this one on has a reference, and looks no further than `limit` for it: clusters that
+// lie apart cost a search for each of them, not for each cluster between them.
+#[inline]
+fn uses_in_order(tally: &Tally, cluster: u64, limit: u64, unused_end: &mut u64) -> u64
+    requires tally { tally.now.first ≤ cluster }
+    requires limit { cluster ≤ limit }
+    requires unused { (c : ℕ) → cluster ≤ c → c < unused_end.old → cell_at tally.now c ≡ 0 }
+    ensures uses { result ≡ cell_at tally.now cluster / 8 }
+    ensures unused { (c : ℕ) → cluster ≤ c → c < unused_end.new → cell_at tally.now c ≡ 0 }
+{
+    if cluster >= *unused_end && !tally.is_dense(cluster) {
+        *unused_end = tally.next_used(cluster, limit);
+    }
+    if cluster < *unused_end {
+        return 0;
+    }
+    count_of(tally.cell(cluster))
+}
+
 // Raises or lowers refcounts of a block to the numbers of references that a tally has counted. Refuses a
 // number that a refcount can't hold (fault 30).
 fn pass_counters(
@@ -95,8 +115,10 @@ fn pass_counters(
         ≡ record block.old { numbers = block.new.numbers; modified = block.new.modified } }
     ensures modified { (block.new ≡ block.old) ⊎ (block.new.modified ≡ true) }
 {
+    let limit = part.first + part.to as u64;
+    let mut unused_end = part.first;
     for index in part.from..part.to {
-        let uses = count_of(tally.cell(part.first + index as u64));
+        let uses = uses_in_order(tally, part.first + index as u64, limit, &mut unused_end);
         pass_counter(block, index, uses, pass)?;
     }
     Ok(())

@@ -1,15 +1,22 @@
-use Rattle.std.proofs.Common.{◌≡◌, ℕ, ◌+◌, ◌≤◌, nat_lt, if◌then◌else◌, List, [], ◌∷◌, ◌++◌, sym, ap, ◌∙◌, append-nil, refl, arith}
+use Rattle.std.proofs.Common.{◌≡◌, Ok, ℕ, ◌+◌, ◌≤◌, nat_lt, if◌then◌else◌, List, [], ◌∷◌, ◌++◌, sym, ap, ◌∙◌, append-nil, refl, arith}
 use Rattle.std.proofs.lemmas.Bool.Decides.{nat_tests}
 use Rattle.qcow2_base.specs.Storage.{Image}
 use Rattle.qcow2_summary.proofs.ImageEndLemmas.{findings-end, last_below}
 use Rattle.qcow2_check.specs.Counters.{CountersState}
-use Rattle.qcow2_check.specs.Findings.{FindingsState, findings_left, image_findings, tables_of}
+use Rattle.qcow2_check.specs.Findings.{FindingsState, checked_tables, findings_left, image_findings, tables_of}
 use Rattle.qcow2_check.specs.Flags.{FlagsState, flag_tables}
-use Rattle.qcow2_check.specs.Totals.{finding_totals}
+use Rattle.qcow2_check.specs.L1Length.{guest_clusters}
+use Rattle.qcow2_check.specs.Totals.{corruptions_in, finding_totals, totals_on}
 use Rattle.qcow2_check.specs.Uses.{ImageTables}
 use Rattle.qcow2_check.specs.declared.findings.Finding.{Finding}
 use Rattle.qcow2_check.specs.declared.totals.Totals.{Totals}
-use Rattle.qcow2_summary.specs.ImageEnd.{findings_end, most_clusters}
+use Rattle.qcow2_metadata.specs.Header.{HeaderRecord, geometry_of}
+use Rattle.qcow2_metadata.specs.Results.{result_map}
+use Rattle.qcow2_summary.specs.EntryCounts.{counted_entries, entry_counts}
+use Rattle.qcow2_summary.specs.ImageEnd.{findings_end, image_end, most_clusters}
+use Rattle.qcow2_summary.specs.declared.entry_counts.EntryCounts.{EntryCounts}
+use Rattle.qcow2_session.specs.Commands.Check.Account.{account_of, checked_account}
+use Rattle.qcow2_session.specs.declared.commands.check.account.Account.{Account}
 
 -- where one finding more is counted, the end is that of all still
 pub found-end : (limit was is end : ℕ) (finding : Finding) (left later : List Finding)
@@ -44,3 +51,18 @@ tables-kept findings later flags last counters same begun kept is of_header =
       sym (ap (λ (t : ImageTables). t.header) all) ∙ sym of_header ∙ sym (ap (λ (c : CountersState). c.header) is),
       sym (ap (λ (t : ImageTables). t.reftable) all) ∙ sym (ap (λ (c : CountersState). c.reftable) is),
     )
+
+-- the entries of tables that can be checked are counted
+entries-checked : (header : HeaderRecord) (image : Image) (tables : ImageTables) (entries : EntryCounts) → checked_tables header image ≡ Ok tables
+    → counted_entries header image ≡ Ok entries → (entries ≡ entry_counts (geometry_of tables.header) image tables.l1) × (tables.header ≡ header)
+entries-checked header image tables entries found counted = grind (arith, found, counted)
+
+-- what is counted of such tables is their account
+pub account-is : (header : HeaderRecord) (image : Image) (tables : ImageTables) (account : Account) → checked_tables header image ≡ Ok tables
+    → account.totals ≡ totals_on tables image → account.corruptions ≡ corruptions_in header account.totals
+    → account.image_end ≡ image_end tables image → account.guest_clusters ≡ guest_clusters header
+    → counted_entries header image ≡ Ok account.entries → checked_account header image ≡ Ok account
+account-is header image tables account found totals corruptions end guests counted =
+    let entries = entries-checked header image tables account.entries found counted in
+    let same : account ≡ account_of tables image = grind (arith, totals, rw (totals, ← entries.1) at corruptions, end, rw (← entries.1) at guests, entries.0) in
+    ap (λ checked. result_map (λ each. account_of each image) checked) found ∙ ap Ok (sym same)

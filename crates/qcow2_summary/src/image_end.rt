@@ -38,10 +38,10 @@ fn counters_end<S: Storage>(
         let last = HostCluster(end - 1);
         if !counters.has_block(last) {
             end = counters.block_start(last);
-        } else if counters.get(image, last)? != 0 {
+        } else if counters.get_in_order(image, last)? != 0 {
             return Ok(end);
         } else {
-            end -= 1;
+            end = counters.free_start(last);
         }
     }
     Ok(0)

@@ -128,19 +128,19 @@ impl Repair {
     }
 }
 
-/// An image whose tables a repair loads: changes of the sample image, and the offsets of its L2 tables.
+/// An image whose tables a repair loads: changes of the sample image, the offsets of its L2 tables, and the
+/// loads of each by `check IMAGE repair`. To check what is left, it loads each table once, and once more from
+/// the first one on that has a flag which is rightly not set.
 #[derive(Clone, Copy, Debug)]
 pub struct Loaded {
     pub name: &'static str,
     pub changes: Numbers<'static>,
     pub l2_tables: &'static [u64],
+    pub checked_loads: usize,
 }
 
 /// The loads of each L2 table by a repair: to count references, to clear flags and to set flags.
 pub const REPAIR_LOADS: usize = 3;
-
-/// The loads of each L2 table by `check IMAGE repair`: those of the repair, and two to check what is left.
-pub const CHECKED_REPAIR_LOADS: usize = REPAIR_LOADS + 2;
 
 /// An image that can't be repaired: changes of the sample image, and the fault.
 #[derive(Clone, Copy, Debug)]

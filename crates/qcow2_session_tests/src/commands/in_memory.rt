@@ -6,7 +6,7 @@ use crate::failing_output::{FailingOutput, Failure};
 use qcow2_base::{Device, Fault, FileStorage, Storage};
 use qcow2_session::{Command, Verdict, run_words};
 use qcow2_session_calls::{parse_command, run, run_on_file};
-use qcow2_testing::damages::{CHECKED_REPAIR_LOADS, Loaded, loaded_images};
+use qcow2_testing::damages::{Loaded, loaded_images};
 use qcow2_testing::sample_image::{
     BLOCK, EXTENTS, INFO, JSON, L2_TABLE, LARGER, NEXT_TABLE, REFTABLE, TABLE_LINES, TWO_TABLES,
     check_sample, sample_image,
@@ -167,13 +167,15 @@ fn check_loads(alloc: Global, row: Loaded) -> Result<(), Fail> {
     let answer = run_command(alloc, &mut image, "check IMAGE repair", &mut out)?;
     same(answer, DONE, row.name)?;
     for table in row.l2_tables {
-        same(image.reads_of(*table), CHECKED_REPAIR_LOADS, row.name)?;
+        same(image.reads_of(*table), row.checked_loads, row.name)?;
     }
     Ok(())
 }
 
 #[test]
-fn a_check_with_a_repair_loads_each_l2_table_five_times(rt: HostRuntime) -> Result<(), Fail> {
+fn a_check_with_a_repair_loads_each_l2_table_four_or_five_times(
+    rt: HostRuntime,
+) -> Result<(), Fail> {
     each(rt.alloc(), loaded_images(), check_loads)
 }
 

@@ -101,17 +101,18 @@ const FLAGS: &[Repair] = rows! {
 };
 
 const LOADED: &[Loaded] = rows! { Loaded:
-    { name: "an image in order", changes: counted! {}, l2_tables: &[L2_TABLE] },
-    { name: "a leaked cluster", changes: counted! { TO_6 }, l2_tables: &[L2_TABLE] },
+    { name: "an image in order", changes: counted! {}, l2_tables: &[L2_TABLE], checked_loads: 4 },
+    { name: "a leaked cluster", changes: counted! { TO_6 }, l2_tables: &[L2_TABLE], checked_loads: 4 },
     { name: "false flags", changes: counted! { (NEXT_ENTRY, COPIED + 0xa00), TWICE },
-        l2_tables: &[L2_TABLE] },
-    { name: "late flags of two tables", changes: LATE_TABLES, l2_tables: &[L2_TABLE, 0xc00] },
-    { name: "missing data", changes: counted! { NO_DATA }, l2_tables: &[L2_TABLE] },
+        l2_tables: &[L2_TABLE], checked_loads: 5 },
+    { name: "late flags of two tables", changes: LATE_TABLES, l2_tables: &[L2_TABLE, 0xc00],
+        checked_loads: 4 },
+    { name: "missing data", changes: counted! { NO_DATA }, l2_tables: &[L2_TABLE], checked_loads: 4 },
     { name: "all of that in two tables",
         changes: counted! {
             LARGER, TWO_TABLES, DATA, (NEXT_TABLE, COPIED + 0xc00), (0xc00, COPIED + 0xa00),
             (0xc00 + 504, 0xe00), (COUNTERS_8, 1)
-        }, l2_tables: &[L2_TABLE, 0xc00] },
+        }, l2_tables: &[L2_TABLE, 0xc00], checked_loads: 5 },
 };
 
 // Refcounts of one bit, the first six of them 1.

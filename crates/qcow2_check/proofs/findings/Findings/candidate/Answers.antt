@@ -1,18 +1,28 @@
-use Rattle.std.proofs.Common.{◌%◌, ◌≡◌, ap, rules}
+use Rattle.std.proofs.Common.{◌%◌, ◌≡◌, ap, rules, arith}
 use Rattle.qcow2_check.proofs.FindingsLemmas.{right_before, right_in_kept}
 use Rattle.qcow2_check.specs.Counters.{counters_each}
 use Rattle.qcow2_check.specs.Findings.{FindingsState}
 use Rattle.qcow2_check.proofs.findings.Findings.candidate.Goals as goal
 
+pub returns-then-not-is_dense-clause-right : goal.returns-then-not-is_dense-clause-right
+returns-then-not-is_dense-clause-right c = λ image reads.
+    let position : c.self.inside.position ≡ c.args.self.now.position = ap (λ (reader : FindingsState). reader.position) c.self.view_is in
+    let none = rw position at c.next_used-next.ensures.none in
+    let header : c.self.inside.counters.header ≡ c.args.self.now.header = search rules in
+    let reftable : c.self.inside.counters.reftable ≡ c.args.self.now.counters.reftable = search rules in
+    let free = rw (position, header, reftable) at c.free_end.ensures.free in
+    right_before c.args.self.now c.unwrap-tally.result.now image c.args.self.now.position c.free_end.result (search rules) reads (search rules) (search rules)
+    (λ k after before. none k after (omega (arith, before, c.free_end.ensures.within))) (free image (search rules))
+
 pub returns-clause-right : goal.returns-clause-right
 returns-clause-right c = λ image reads.
     let position : c.self.inside.position ≡ c.args.self.now.position = ap (λ (reader : FindingsState). reader.position) c.self.view_is in
-    let none = rw position at c.next_used.ensures.none in
     let header : c.self.inside.counters.header ≡ c.args.self.now.header = search rules in
     let reftable : c.self.inside.counters.reftable ≡ c.args.self.now.counters.reftable = search rules in
-    let blocks = rw (header, reftable) at c.block_end-limit.ensures.none in
+    let none = rw position at c.next_used.ensures.none in
+    let free = rw (position, header, reftable) at c.free_end-free.ensures.free in
     right_before c.args.self.now c.unwrap-tally.result.now image c.args.self.now.position c.next_used.result (search rules) reads (search rules) (search rules)
-    none (λ k after before. blocks k (search rules) (search rules))
+    none (λ k after before. free image (search rules) k after (omega (arith, before, c.next_used.ensures.within)))
 
 pub returns-in-Some-clause-right : goal.returns-in-Some-clause-right
 returns-in-Some-clause-right c = λ image reads.

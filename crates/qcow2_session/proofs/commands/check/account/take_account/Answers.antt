@@ -1,5 +1,6 @@
-use Rattle.std.proofs.Common.{◌∙◌, arith}
+use Rattle.std.proofs.Common.{◌∙◌, arith, rules}
 use Rattle.std.proofs.lemmas.Result.{err_from_is_err_and}
+use Rattle.qcow2_session.proofs.AccountLemmas.{account-is}
 use Rattle.qcow2_session.proofs.commands.check.account.take_account.Goals as goal
 
 pub returns-in_err-entries-clause-exact : goal.returns-in_err-entries-clause-exact
@@ -11,3 +12,12 @@ returns-in_err-entries-clause-exact g c =
     let tables = checked.exact told in
     let refused = rw (counted.bytes ∙ checked.storage.bytes) at (c.in_err-entries.ensures.exact (counted.device.tells ∙ checked.storage.device.tells ∙ told)) in
     grind (arith, tables, refused))
+
+pub returns-clause-exact : goal.returns-clause-exact
+returns-clause-exact g c = λ told.
+    let checked = c.in_ok-findings.ensures.reads in
+    let counted = c.in_ok-totals.ensures.storage in
+    let tables = checked.exact told in
+    let totals = rw checked.storage.bytes at (c.in_ok-totals.ensures.found (checked.storage.device.tells ∙ told)) in
+    let entries = rw (counted.bytes ∙ checked.storage.bytes) at (c.in_ok-entries.ensures.exact (counted.device.tells ∙ checked.storage.device.tells ∙ told)) in
+    account-is c.args.header.now (g.S.Storage.state c.args.image.now).byte_at _ _ tables totals.0 (search rules) totals.1 (search rules) entries

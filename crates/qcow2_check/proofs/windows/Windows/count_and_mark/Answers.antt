@@ -1,5 +1,5 @@
 use Rattle.qcow2_check.proofs.FindingsLemmas.{counts_all}
-use Rattle.qcow2_check.proofs.windows.Windows.count.Goals as goal
+use Rattle.qcow2_check.proofs.windows.Windows.count_and_mark.Goals as goal
 
 pub returns-clause-counted : goal.returns-clause-counted
 returns-clause-counted g c = λ told.

@@ -1,6 +1,6 @@
 use Rattle.std.proofs.Common.{◌≡◌, ℕ, ◌+◌, ◌<◌, false, IsTrue, slice_index}
 use Rattle.qcow2_check.specs.Flags.{HasNoFlag}
-use Rattle.qcow2_check.proofs.flags.are_right.Given as goal
+use Rattle.qcow2_check.proofs.flags.marks.are_right.Given as goal
 
 -- none of the entries before this one has a wrong flag, as far as all were right
 abbrev pub invariant-loop-k : goal.invariant-loop-k

@@ -3,7 +3,7 @@ use Rattle.std.proofs.lemmas.Bool.Decides.{nat_tests}
 use Rattle.std.proofs.Common.{◌≡◌, false, IsTrue, arith, inl, inr}
 use Rattle.qcow2_metadata.specs.Header.{geometry}
 use Rattle.qcow2_check.proofs.FlagsLemmas.{inside_only}
-use Rattle.qcow2_check.proofs.flags.are_right.Goals as goal
+use Rattle.qcow2_check.proofs.flags.marks.are_right.Goals as goal
 
 pub loop-k-preserved : goal.loop-k-preserved
 loop-k-preserved c = λ right inside j below.
