@@ -8,7 +8,7 @@ from array import array
 from collections import Counter
 
 from .draft import table_bytes, table_with, write_image
-from .image import COMPRESSED, COPIED, ENTRY_SIZE, SECTOR, ZERO, Geometry, Header
+from .image import COMPRESSED, COPIED, ENTRY_SIZE, SECTOR, ZERO, Geometry, Header, Image
 
 # The number of images with random entries, and of the host clusters that the data of each lies in.
 RANDOM_IMAGES, HOST_CLUSTERS = 40, 24
@@ -168,6 +168,17 @@ def write_row_image(path, geometry, size, is_sparse=False):
     mapped = range(first, first + len(entries) // step)
     entries[::step] = array("Q", (COPIED | cluster * geometry.cluster_size for cluster in mapped))
     write_counted_image(path, geometry, tables, range(tables), entries, mapped.stop)
+
+
+def write_leak(path):
+    """Adds a leaked cluster at the end of an image with refcounts of 16 bits, whose last block counts one more."""
+    image = Image(path)
+    size, cluster = image.header.cluster_size, image.length // image.header.cluster_size
+    block, index = image.refcount_place(cluster)
+    with open(path, "r+b") as file:
+        file.truncate((cluster + 1) * size)
+        file.seek(block * size + 2 * index)
+        file.write(b"\0\1")
 
 
 def write_long_image(path):
