@@ -10,7 +10,7 @@ use Rattle.qcow2_metadata.specs.Table.{IsEntryFault, TableState, l2_layout}
 use Rattle.qcow2_base.specs.declared.types.HostCluster.{HostCluster}
 use Rattle.qcow2_check.proofs.UsesLemmas.{all_load_more, all_load_until, loaded, take_more}
 use Rattle.qcow2_check.specs.Uses.{all_load, l1_entry_loads}
-use Rattle.qcow2_check.specs.Walk.{TakesEntries, Took, entries_list, entry_list, l1_list, list_from, one_use, row_list}
+use Rattle.qcow2_check.specs.Walk.{Took, entries_list, entry_list, l1_list, list_from, one_use, row_list}
 use Rattle.qcow2_check.specs.declared.uses.Use.{Use}
 use Rattle.qcow2_check.specs.declared.uses.UseKind.TheVariants.{Data}
 

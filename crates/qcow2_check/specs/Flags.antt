@@ -101,6 +101,10 @@ pub record AreMarksOf (tables : ImageTables) (image : Image) (marks : MarksState
   pub soles : AreSoles (counter_of tables.header tables.reftable image) marks.soles
   pub clean : (index : ℕ) → index < marks.clean → IsClean tables image index
 
+-- marks that are right by an image stay so
+abbrev pub KeepsMarks : ImageTables → StorageState → MarksState → MarksState → Type 0
+KeepsMarks tables image old new = OnImage image (λ bytes. AreMarksOf tables bytes old → AreMarksOf tables bytes new)
+
 -- what a reader of flags has: the image's header, its L1 table and its counters, what is known of its flags, the index of
 -- the L1 entry that it has come to, and where that entry's flag was looked at, the L2 table that it names and the index of the
 -- entry there

@@ -12,14 +12,14 @@ ghost use Rattle.qcow2_base.specs.Types.{IsClusterBits};
 ghost use Rattle.qcow2_metadata.specs.Header.{geometry, geometry_of};
 ghost use Rattle.qcow2_metadata.specs.Results.{Reads};
 ghost use Rattle.qcow2_metadata.specs.Table.{IsEntryFault};
-ghost use Rattle.qcow2_check.specs.Flags.{AreMarksOf};
+ghost use Rattle.qcow2_check.specs.Flags.{KeepsMarks};
 ghost use Rattle.qcow2_check.specs.NamedTables.{IsInImage, named_cluster};
 ghost use Rattle.qcow2_check.specs.Tally.{CountsGroup, CountsMore, used_clusters};
 ghost use Rattle.qcow2_check.specs.Uses.{all_load, entry_uses, image_uses, l1_entry_loads};
 ghost use Rattle.qcow2_check.specs.Walk.{CountsUses, Took, guest_list, l1_list, tally_kind};
 
 use crate::flags::Marks;
-use crate::groups::{TOGETHER, are_unallocated, entry_at, row_at};
+use crate::groups::{TOGETHER, are_unallocated, entry_at, row_at, starts_group};
 use crate::image_tables::ImageTables;
 use crate::named_tables::{load_l2_table, named_cluster};
 use crate::tally::{Tally, TallyKind};
@@ -144,8 +144,7 @@ fn count_entries(tally: &mut Tally, table: &L2Table) -> Result<(), Fault>
     let (cluster_bits, entries) = (table.cluster_bits(), table.entries());
     let mut index = 0;
     while index < entries {
-        let is_group = index % TOGETHER == 0 && entries - index >= TOGETHER;
-        if is_group && count_group(tally, table, index) {
+        if starts_group(table, index) && count_group(tally, table, index) {
             index += TOGETHER;
         } else {
             let entry = entry_at(table, index);
@@ -230,8 +229,7 @@ fn count_table<S: Storage>(
     ensures taken { OnOk result (Took CountsUses (S.state image.old)
         (λ bytes. l1_list (geometry_of tables.now.header) bytes index (slice_index tables.now.l1 index))
         tally.old tally.new) }
-    ensures marks { OnImage (S.state image.old) (λ bytes.
-        AreMarksOf tables.now bytes marks.old → AreMarksOf tables.now bytes marks.new) }
+    ensures marks { KeepsMarks tables.now (S.state image.old) marks.old marks.new }
 {
     let alloc = tables.l1_table.allocator();
     let table = load_l2_table(alloc, image, tables.header, cluster)?;
@@ -255,8 +253,7 @@ fn count_l1_entry<S: Storage>(
     ensures taken { OnOk result (Took CountsUses (S.state image.old)
         (λ bytes. l1_list (geometry_of tables.now.header) bytes index (slice_index tables.now.l1 index))
         tally.old tally.new) }
-    ensures marks { OnImage (S.state image.old) (λ bytes.
-        AreMarksOf tables.now bytes marks.old → AreMarksOf tables.now bytes marks.new) }
+    ensures marks { KeepsMarks tables.now (S.state image.old) marks.old marks.new }
 {
     match named_cluster(tables.l1_table, index) {
         Some(cluster) => count_table(tally, marks, image, tables, index, cluster),
@@ -278,8 +275,7 @@ fn count_guest<S: Storage>(
         IsEntryFault (S.state image.old) (S.state image.new) }
     ensures taken { OnOk result (Took CountsUses (S.state image.old) (guest_list tables.now)
         tally.old tally.new) }
-    ensures marks { OnImage (S.state image.old) (λ bytes.
-        AreMarksOf tables.now bytes marks.old → AreMarksOf tables.now bytes marks.new) }
+    ensures marks { KeepsMarks tables.now (S.state image.old) marks.old marks.new }
 {
     for index in 0..tables.l1_table.entries() {
         count_l1_entry(tally, marks, image, tables, index)?;
@@ -300,8 +296,7 @@ pub(crate) fn count_image<S: Storage>(
     ensures counted { OnOk result (OnImage (S.state image.old) (λ bytes.
         CountsMore (image_uses tables.now bytes) tally.old tally.new)) }
     ensures first { OnOk result (tally.new.first ≡ tally.old.first) }
-    ensures marks { OnImage (S.state image.old) (λ bytes.
-        AreMarksOf tables.now bytes marks.old → AreMarksOf tables.now bytes marks.new) }
+    ensures marks { KeepsMarks tables.now (S.state image.old) marks.old marks.new }
 {
     walk_tables(tables, tally)?;
     count_guest(tally, marks, image, tables)

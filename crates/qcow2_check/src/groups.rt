@@ -93,9 +93,9 @@ pub(crate) fn row_at(table: &L2Table, first: usize) -> Option<HostCluster>
     is_row.then_some(start)
 }
 
-// Whether a group of `TOGETHER` entries begins at an index.
+/// Whether a group of `TOGETHER` entries begins at an index.
 #[inline(always)]
-fn starts_group(table: &L2Table, index: usize) -> bool
+pub(crate) fn starts_group(table: &L2Table, index: usize) -> bool
     requires { index < length table.now.numbers }
     ensures { IsTrue result → index + 16 ≤ length table.now.numbers }
 {

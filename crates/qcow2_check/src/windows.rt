@@ -8,7 +8,7 @@ ghost use Rattle.qcow2_metadata.specs.Results.{Reads};
 ghost use Rattle.qcow2_metadata.specs.Table.{IsEntryFault};
 ghost use Rattle.qcow2_check.specs.Counters.{IsCountedEnd};
 ghost use Rattle.qcow2_check.specs.Findings.{CountsAll};
-ghost use Rattle.qcow2_check.specs.Flags.{AreMarksOf};
+ghost use Rattle.qcow2_check.specs.Flags.{KeepsMarks};
 ghost use Rattle.qcow2_check.specs.Uses.{all_load};
 ghost use Rattle.qcow2_check.specs.Windows.{IsWindow, cell_bytes, most_cell_bytes};
 
@@ -146,8 +146,7 @@ impl Windows {
         ensures first { IfOk result (λ tally. (tally.first ≡ first) × (first < tally.end)
             × (tally.end ≤ max_file_length)) }
         ensures same { self.new ≡ record self.old { is_sparse = self.new.is_sparse } }
-        ensures marks { OnImage (S.state image.old) (λ bytes.
-            AreMarksOf tables.now bytes marks.old → AreMarksOf tables.now bytes marks.new) }
+        ensures marks { KeepsMarks tables.now (S.state image.old) marks.old marks.new }
     {
         if first == 0 {
             self.is_sparse = false;

@@ -7,7 +7,7 @@ ghost use Rattle.qcow2_metadata.specs.Header.{geometry};
 ghost use Rattle.qcow2_check.specs.Flags.{HasNoFlag, l2_flags_from};
 ghost use Rattle.qcow2_check.specs.Soles.{AreSoles};
 
-use crate::groups::{TOGETHER, are_unallocated, cluster_at, entry_at, row_at};
+use crate::groups::{TOGETHER, cluster_at, entry_at, row_at, starts_group, starts_unallocated};
 use crate::named_tables::named_cluster;
 use crate::soles::Soles;
 use qcow2_base::{HostCluster, field};
@@ -85,13 +85,11 @@ pub(super) fn starts_right(soles: &Soles, table: &L2Table, index: usize) -> bool
         × ((k : ℕ) → k < 16 →
         HasNoFlag table.now.geometry soles.now (slice_index table.now.numbers (index + k))) }
 {
-    if index % TOGETHER != 0 || table.entries() - index < TOGETHER {
-        return false;
-    }
-    if are_unallocated(table, index) {
+    if starts_unallocated(table, index) {
         return true;
     }
-    !table.external_data_file()
+    starts_group(table, index)
+        && !table.external_data_file()
         && (is_right_row(soles, table, index) || are_right(soles, table, index))
 }
 

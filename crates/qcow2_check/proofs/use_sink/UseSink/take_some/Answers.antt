@@ -1,4 +1,4 @@
-use Rattle.std.proofs.Common.{◌≡◌, ◌+◌, ◌*◌, ◌<◌, ◌^◌, ◌-◌, length, refl, take, rules, arith}
+use Rattle.std.proofs.Common.{◌≡◌, ◌+◌, ◌*◌, ◌<◌, ◌^◌, ◌-◌, refl, take, rules, arith}
 use Rattle.qcow2_metadata.specs.Table.{l2_entries}
 use Rattle.qcow2_check.proofs.GroupsLemmas.{row_use}
 use Rattle.qcow2_check.proofs.SinkLemmas.{list_row, list_skip, no_entry, takes_next}

@@ -1,4 +1,4 @@
-use Rattle.std.proofs.Common.{◌≡◌, rules, arith}
+use Rattle.std.proofs.Common.{◌≡◌, rules}
 use Rattle.qcow2_layout.proofs.LayoutLemmas.{counted-piece, free-piece, used-piece}
 use Rattle.qcow2_layout.specs.Layout.{IsLayoutOf}
 use Rattle.qcow2_layout.proofs.layout.Layout.piece_in_window.Goals as goal

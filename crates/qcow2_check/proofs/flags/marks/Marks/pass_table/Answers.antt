@@ -1,8 +1,5 @@
 use Rattle.std.proofs.Common.{◌≡◌, ◌+◌, slice_index, true, ap, subst, sym, rules}
 use Rattle.qcow2_metadata.specs.Entries.{is_copied}
-use Rattle.qcow2_metadata.specs.Header.{geometry_of}
-use Rattle.qcow2_metadata.specs.Placed.{numbers_at}
-use Rattle.qcow2_metadata.specs.Table.{l2_layout}
 use Rattle.qcow2_check.proofs.FlagsLemmas.{marks_more, table_is_clean}
 use Rattle.qcow2_check.specs.Counters.{counter_of}
 use Rattle.qcow2_check.specs.Flags.{AreMarksOf, MarksState}
