@@ -167,9 +167,9 @@ pub(crate) fn are_zero(block: &RefBlock, first: usize) -> bool
     zero
 }
 
-// Returns a number of refcounts of a block from an index on, at most `count`, that are 0. Tests whole groups,
-// so more may be 0.
-fn zero_groups(block: &RefBlock, first: usize, count: usize) -> usize
+/// Returns a number of refcounts of a block from an index on, at most `count`, that are 0. Tests whole groups
+/// of 64, so more may be 0.
+pub fn zero_groups(block: &RefBlock, first: usize, count: usize) -> usize
     requires { first + count ≤ length block.now.numbers }
     ensures within { result ≤ count }
     ensures zero { (k : ℕ) → k < result → slice_index block.now.numbers (first + k) ≡ 0 }

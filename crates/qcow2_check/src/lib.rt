@@ -20,7 +20,7 @@ mod verdict;
 mod walk;
 mod windows;
 
-pub use counters::{Counters, counted_end};
+pub use counters::{Counters, counted_end, zero_groups};
 pub use file_end::{FileEnd, refuse_tables_past_end};
 pub use findings::{Finding, Findings};
 pub use flags::{FlagPlace, Flags, WrongFlag, flagged_cluster};

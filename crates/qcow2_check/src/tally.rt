@@ -167,6 +167,16 @@ impl Tally {
         self.sparse.get(&cluster).copied().unwrap_or(0)
     }
 
+    /// The cell of a cluster that has one of the consecutive cells.
+    #[inline(always)]
+    pub fn dense_cell(&self, cluster: u64) -> u64
+        requires first { self.now.first ≤ cluster }
+        requires dense { cluster < dense_end self.now }
+        ensures { result ≡ cell_at self.now cluster }
+    {
+        self.dense.get((cluster - self.first) as usize)
+    }
+
     /// Whether the clusters from `first` on are known to be right, with these refcounts and with guest data
     /// as their only references. Returns false if one of them has no dense cell.
     #[inline]

@@ -257,6 +257,48 @@ passes-next pass uses from index old mid new low below so_far is = record {
   ];
 }
 
+-- a pass over counters that it doesn't change
+stays : (pass : CounterPass) (uses : ℕ → ℕ) (from count : ℕ) (numbers : List ℕ)
+    → ((k : ℕ) → k < count → counter_towards pass (uses (from + k)) (slice_index numbers (from + k)) ≡ slice_index numbers (from + k))
+    → PassesBlock pass uses from (from + count) numbers numbers
+stays pass uses from count numbers same = record {
+  count = refl;
+  each = λ k small. elim (cases_lt k from) [
+    | inl less ↦ grind (arith, nat_tests, less)
+    | inr more ↦
+        let place : from + (k - from) ≡ k = omega (arith, more) in
+        elim (cases_lt k (from + count)) [
+          | inl within ↦
+              let here : counter_towards pass (uses k) (slice_index numbers k) ≡ slice_index numbers k = rw place at (same (k - from) (omega (arith, more, within))) in
+              grind (arith, nat_tests, here, more, within)
+          | inr past ↦ grind (arith, nat_tests, past)
+        ]
+  ];
+}
+
+towards-itself : (pass : CounterPass) (counter : ℕ) → counter_towards pass counter counter ≡ counter
+towards-itself Rise counter = grind (arith, nat_tests)
+towards-itself Fall counter = grind (arith, nat_tests)
+
+-- it doesn't change one that is as great as the uses
+pub right_stays : (pass : CounterPass) (uses : ℕ → ℕ) (from count : ℕ) (numbers : List ℕ)
+    → ((k : ℕ) → k < count → slice_index numbers (from + k) ≡ uses (from + k)) → PassesBlock pass uses from (from + count) numbers numbers
+right_stays pass uses from count numbers right =
+    stays pass uses from count numbers (λ k below. rw (right k below) (towards-itself pass (uses (from + k))))
+
+-- nor does a rise one of a cluster without uses
+pub unused_stays : (uses : ℕ → ℕ) (from count : ℕ) (numbers : List ℕ)
+    → ((k : ℕ) → k < count → uses (from + k) ≡ 0) → PassesBlock Rise uses from (from + count) numbers numbers
+unused_stays uses from count numbers unused =
+    stays Rise uses from count numbers (λ k below. grind (arith, nat_tests, unused k below))
+
+pub unused_part : (uses : ℕ → ℕ) (from to : ℕ) (numbers : List ℕ) → from ≤ to
+    → ((k : ℕ) → from ≤ k → k < to → uses k ≡ 0) → PassesBlock Rise uses from to numbers numbers
+unused_part uses from to numbers order unused =
+    let whole : from + (to - from) ≡ to = omega (arith, order) in
+    subst (λ end. PassesBlock Rise uses from end numbers numbers) whole
+    (unused_stays uses from (to - from) numbers (λ k below. unused (from + k) (omega arith) (omega (arith, below))))
+
 -- the place of a block that a refcount table entry names
 pub place_of_named : (header : HeaderRecord) (reftable : List ℕ) (i c : ℕ) (block : HostCluster) → blocks_fault header reftable ≡ None
     → i ≡ c / counters_each header → named_block header.v2.cluster_bits (slice_index reftable i) ≡ Some block

@@ -1,7 +1,7 @@
 use Rattle.std.proofs.Common.{◌/◌, ◌+◌, rules, arith}
 use Rattle.qcow2_check.specs.Tally.{cell_at}
 use Rattle.qcow2_repair.proofs.CountersLemmas.{passes-next}
-use Rattle.qcow2_repair.proofs.counters.pass_counters.Goals as goal
+use Rattle.qcow2_repair.proofs.counters.pass_each.Goals as goal
 
 pub loop-index-preserved : goal.loop-index-preserved
 loop-index-preserved c = record {
