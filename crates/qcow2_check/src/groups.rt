@@ -75,10 +75,10 @@ fn are_copied_from(table: &L2Table, first: usize, start: HostCluster) -> bool
     are_copied
 }
 
-/// The cluster of the first of `TOGETHER` entries from an index on, if they are a row: all have the copied
-/// flag, and they name consecutive clusters.
+/// The cluster of the first of 16 entries from an index on, if they are a row: all have the copied flag, and
+/// they name consecutive clusters.
 #[inline(always)]
-pub(crate) fn row_at(table: &L2Table, first: usize) -> Option<HostCluster>
+pub fn row_at(table: &L2Table, first: usize) -> Option<HostCluster>
     requires group { first + 16 ≤ length table.now.numbers }
     ensures row { IfSome result (λ start.
         IsRow table.now.geometry.cluster_bits table.now.numbers first start.0) }

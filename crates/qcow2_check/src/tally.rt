@@ -181,7 +181,7 @@ impl Tally {
     /// as their only references. Returns false if one of them has no dense cell.
     #[inline]
     #[tactic(auto, using(crate::proofs::TallyLemmas::plain_dense))]
-    pub(crate) fn are_plain(&self, first: u64, counters: &[u64]) -> bool
+    pub fn are_plain(&self, first: u64, counters: &[u64]) -> bool
         requires { self.now.first ≤ first }
         ensures { IsTrue result → (k : ℕ) → k < length counters.now →
             IsPlain (cell_at self.now (first + k)) (slice_index counters.now k) }

@@ -1,4 +1,4 @@
-use Rattle.std.proofs.Common.{◌≡◌, ◌≢◌, ◌⊎◌, ℕ, Bool, true, false, ◌+◌, ◌*◌, ◌^◌, ◌<◌, ◌≤◌, List, [], ◌∷◌, map, length, slice_index, slice_set, Option, Some, None, Ok, ap, refl, sym, ◌∙◌, inl, inr, arith}
+use Rattle.std.proofs.Common.{◌≡◌, ◌≢◌, ◌⊎◌, ℕ, Bool, true, false, ◌+◌, ◌-◌, ◌*◌, ◌/◌, ◌^◌, ◌<◌, ◌≤◌, List, [], ◌∷◌, map, length, slice_index, slice_set, Option, Some, None, Ok, ap, refl, sym, ◌∙◌, inl, inr, arith}
 use Rattle.std.proofs.lemmas.Bool.{cases_Bool, cases_eq, cases_lt}
 use Rattle.std.proofs.lemmas.Bool.Decides.{nat_tests}
 use Rattle.std.proofs.lemmas.Grind.{get_or-set_at}
@@ -11,17 +11,18 @@ use Rattle.qcow2_base.specs.declared.types.HostCluster.{HostCluster}
 use Rattle.std.proofs.lemmas.List.{ext_get_or, get_or-map, get_or_past, get_or-set_other, length-map, length-set, set-get_or}
 use Rattle.qcow2_metadata.proofs.CopiedLemmas.{is_copied-with_copied, l2_fault-with_copied, with_copied-fits, with_copied-same}
 use Rattle.qcow2_metadata.proofs.TableLemmas.{full_cluster, no_fault_at_all}
-use Rattle.qcow2_metadata.specs.Entries.{is_copied, with_copied}
+use Rattle.qcow2_metadata.specs.Entries.{is_copied, offset_field, with_copied}
 use Rattle.qcow2_metadata.specs.Entries.L2Entry.{is_compressed, l2_fault}
 use Rattle.qcow2_metadata.specs.Header.{HeaderRecord, geometry_of}
 use Rattle.qcow2_metadata.specs.Placed.{offset_of}
 use Rattle.qcow2_metadata.specs.Results.{result_map}
 use Rattle.qcow2_metadata.specs.Table.{first_fault, l2_layout, loaded_l2_table}
 use Rattle.qcow2_check.specs.NamedTables.{named_cluster}
+use Rattle.qcow2_check.specs.Tally.{cell_at}
 use Rattle.qcow2_check.specs.Uses.{all_load, l1_entry_loads}
 use Rattle.qcow2_repair.proofs.RepairLemmas.{entry-loads}
 use Rattle.qcow2_summary.proofs.ClustersLemmas.{other-cluster, table-same}
-use Rattle.qcow2_repair.specs.Flags.{BreaksOffL2, FlagPassState, IsOutsideL2Tables, NamesTable, PassesL2, l2_due, l2_in, passed_l2, with_due}
+use Rattle.qcow2_repair.specs.Flags.{BreaksOffL2, FlagPassState, IsOutsideL2Tables, NamesTable, PassesL2, TallyPass, l2_due, l2_in, pass_by, passed_l2, with_due}
 
 -- an entry that has the flag stays, and so does one that the flag isn't due to
 pub has_flag : (flag : Bool) (due : Option Bool) (v : ℕ) → v < 2 ^ 64 → is_copied v ≡ flag → with_due flag due v ≡ v
@@ -30,6 +31,11 @@ has_flag flag due v fits is = grind (arith, nat_tests, is, with_copied-same v fi
 pub not_due : (flag : Bool) (due : Option Bool) (v : ℕ) → due ≢ Some flag → with_due flag due v ≡ v
 not_due true due v other = grind (arith, nat_tests, other)
 not_due false due v other = grind (arith, nat_tests, other)
+
+-- in a pass that clears flags an entry stays whose cluster has one use
+pub sole_stays : (pass : TallyPass) (v c : ℕ) → pass.flag ≡ false → is_compressed v ≡ false → offset_field v / 2 ^ pass.header.v2.cluster_bits ≡ c
+    → cell_at pass.tally c / 8 ≡ 1 → passed_l2 (pass_by pass) v ≡ v
+sole_stays pass v c clears standard cluster one = grind (arith, nat_tests, clears, standard, cluster, one)
 
 -- so the table stays
 pub entry_passes : (numbers : List ℕ) (index w : ℕ) → w ≡ slice_index numbers index → slice_set numbers index w ≡ numbers
@@ -51,6 +57,21 @@ maps_next f at old mid new below so_far is = record {
     | inr elsewhere ↦ grind (arith, nat_tests, is, elsewhere, small, get_or-set_other, so_far.before k (omega (arith, small, elsewhere)))
   ];
   after = λ k more. grind (arith, nat_tests, is, more, get_or-set_other, so_far.after k (omega (arith, more)));
+}
+
+-- and so are several that stay
+pub maps_same : (f : ℕ → ℕ) (at count : ℕ) (old new : List ℕ) → MapsBefore f at old new
+    → ((k : ℕ) → k < count → f (slice_index new (at + k)) ≡ slice_index new (at + k)) → MapsBefore f (at + count) old new
+maps_same f at count old new so_far same = record {
+  count = so_far.count;
+  before = λ k small. elim (cases_lt k at) [
+    | inl less ↦ so_far.before k less
+    | inr more ↦
+        let place : at + (k - at) ≡ k = omega (arith, more) in
+        let here : f (slice_index new k) ≡ slice_index new k = rw place at (same (k - at) (omega (arith, more, small))) in
+        sym here ∙ ap f (so_far.after k more)
+  ];
+  after = λ k more. so_far.after k (omega (arith, more));
 }
 
 -- all are

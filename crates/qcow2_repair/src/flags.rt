@@ -1,7 +1,7 @@
 //! A repair's pass over copied flags: it clears those that are wrongly set, or sets those that are wrongly
 //! clear, by the references to the clusters that entries name.
 
-ghost use Rattle.std.specs.Prelude.{◌≡◌, ℕ, ◌⊎◌, ◌<◌, IfErr, MatchResult, Ok, OnOk, Some, length, map, slice_index, slice_set, true};
+ghost use Rattle.std.specs.Prelude.{◌≡◌, ℕ, ◌⊎◌, ◌+◌, ◌<◌, ◌≤◌, IfErr, IsTrue, MatchResult, Ok, OnOk, Some, false, length, map, slice_index, slice_set, true};
 ghost use Rattle.qcow2_base.specs.Storage.{OnImage, OnImages, OnlyWrites};
 ghost use Rattle.qcow2_metadata.specs.Header.{geometry_of};
 ghost use Rattle.qcow2_metadata.specs.Placed.{offset_of};
@@ -13,10 +13,15 @@ ghost use Rattle.qcow2_check.specs.Failures.{ReportsFailures};
 ghost use Rattle.qcow2_repair.specs.Flags.{BreaksOffL2, PassesL2, due_flag, l1_due, l2_due, l2_in, pass_by, passed_l1, passed_l2};
 
 use qcow2_base::{Fault, HostCluster, Storage};
-use qcow2_check::{Tally, count_of, flagged_cluster, load_l2_table, named_block, named_cluster};
+use qcow2_check::{
+    Tally, count_of, flagged_cluster, load_l2_table, named_block, named_cluster, row_at,
+};
 use qcow2_metadata::{Header, L1Table, L2Entry, L2Table, RefTable, Table, TableEntry};
 use std::alloc::Global;
 use std::marker::Model;
+
+// The number of L2 entries that are tested as one group.
+const TOGETHER: usize = 16;
 
 /// A pass that gives its `flag` to the entries that need it, by the clusters that refcount blocks count and
 /// the references that a tally has counted.
@@ -92,7 +97,7 @@ impl FlagPass<'_> {
         let entry = l1_table.get(index);
         // Reading the entry as a number shows that it fits 64 bits.
         let _ = entry.to_plain();
-        if self.l1_due(l1_table, index) == Some(self.flag) && entry.is_copied() != self.flag {
+        if entry.is_copied() != self.flag && self.l1_due(l1_table, index) == Some(self.flag) {
             l1_table.set_copied(index, self.flag);
         }
     }
@@ -111,6 +116,62 @@ impl FlagPass<'_> {
         }
     }
 
+    // Whether an L2 entry has the pass's flag.
+    #[inline]
+    #[tactic(auto, using(crate::proofs::FlagsLemmas::has_flag))]
+    fn is_passed(&self, entry: L2Entry) -> bool
+        ensures { IsTrue result → passed_l2 (pass_by self.now) entry ≡ entry }
+    {
+        // Reading the entry as a number shows that it fits 64 bits.
+        let _ = entry.to_plain();
+        entry.is_copied() == self.flag
+    }
+
+    // Whether the `TOGETHER` entries from an index on all have the pass's flag. Tests each, so that the
+    // compiler can compare several at once.
+    fn are_passed(&self, table: &L2Table, first: usize) -> bool
+        requires { first + 16 ≤ length table.now.numbers }
+        ensures { IsTrue result → (k : ℕ) → k < 16 → let v = slice_index table.now.numbers (first + k) in
+            passed_l2 (pass_by self.now) v ≡ v }
+    {
+        prove!(first < table.entries());
+        let mut passed = true;
+        for k in 0..TOGETHER {
+            passed &= self.is_passed(table.get(first + k));
+        }
+        passed
+    }
+
+    // Whether the `TOGETHER` entries from an index on name consecutive clusters that have no other reference.
+    fn are_soles(&self, table: &L2Table, first: usize) -> bool
+        requires geometry { table.now.geometry ≡ geometry_of self.now.header }
+        requires group { first + 16 ≤ length table.now.numbers }
+        ensures { IsTrue result → self.now.flag ≡ false → (k : ℕ) → k < 16 →
+            let v = slice_index table.now.numbers (first + k) in passed_l2 (pass_by self.now) v ≡ v }
+    {
+        match row_at(table, first) {
+            Some(start) => {
+                self.tally.first() <= start.0 && self.tally.are_plain(start.0, &[1; TOGETHER])
+            }
+            None => false,
+        }
+    }
+
+    // Whether the entry at an index begins a group of `TOGETHER` entries that the pass leaves. May return
+    // false for such a group.
+    #[inline]
+    fn starts_unchanged(&self, table: &L2Table, index: usize) -> bool
+        requires geometry { table.now.geometry ≡ geometry_of self.now.header }
+        requires index { index < length table.now.numbers }
+        ensures { IsTrue result → (index + 16 ≤ length table.now.numbers) × ((k : ℕ) → k < 16 →
+            let v = slice_index table.now.numbers (index + k) in passed_l2 (pass_by self.now) v ≡ v) }
+    {
+        if index % TOGETHER != 0 || table.entries() - index < TOGETHER {
+            return false;
+        }
+        self.are_passed(table, index) || (!self.flag && self.are_soles(table, index))
+    }
+
     // Gives the L2 entry at an index the pass's flag if it needs it.
     #[tactic(auto, using(crate::proofs::FlagsLemmas::one_entry))]
     fn pass_l2_entry(&self, table: &mut L2Table, index: usize)
@@ -123,7 +184,7 @@ impl FlagPass<'_> {
         ensures modified { (table.new ≡ table.old) ⊎ (table.new.modified ≡ true) }
     {
         let entry = table.get(index);
-        if self.l2_due(entry) == Some(self.flag) && entry.is_copied() != self.flag {
+        if entry.is_copied() != self.flag && self.l2_due(entry) == Some(self.flag) {
             table.lock_write().set_copied(index, self.flag);
         }
     }
@@ -137,8 +198,14 @@ impl FlagPass<'_> {
             ≡ record table.old { numbers = table.new.numbers; modified = table.new.modified } }
         ensures modified { (table.new ≡ table.old) ⊎ (table.new.modified ≡ true) }
     {
-        for index in 0..table.entries() {
-            self.pass_l2_entry(table, index);
+        let mut index = 0;
+        while index < table.entries() {
+            if self.starts_unchanged(table, index) {
+                index += TOGETHER;
+            } else {
+                self.pass_l2_entry(table, index);
+                index += 1;
+            }
         }
     }
 
