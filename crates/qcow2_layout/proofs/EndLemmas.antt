@@ -1,6 +1,5 @@
-use Rattle.std.proofs.Common.{◌≡◌, ℕ, zero, suc, Bool, true, false, not, ◌&&◌, ◌||◌, ◌+◌, ◌*◌, ◌^◌, List, [], ◌∷◌, map, nat_lt, Option, Some, None, refl, sym, ap, subst, ◌∙◌, arith}
+use Rattle.std.proofs.Common.{◌≡◌, ℕ, zero, suc, Bool, true, false, not, ◌||◌, ◌+◌, ◌*◌, ◌^◌, List, [], ◌∷◌, map, nat_lt, Option, Some, None, refl, sym, ap, ◌∙◌, arith}
 use Rattle.std.specs.Prelude.{is_some}
-use Rattle.std.proofs.lemmas.Bool.{false≢true}
 use Rattle.std.proofs.lemmas.Bool.Decides.{nat_tests}
 use Rattle.std.proofs.lemmas.List.Sums.{sum_by-cons}
 use Rattle.qcow2_base.specs.Storage.{Image}
@@ -15,9 +14,8 @@ use Rattle.qcow2_check.specs.Walk.{counted_use, use_list}
 use Rattle.qcow2_check.specs.declared.uses.Use.{Use}
 use Rattle.qcow2_check.specs.declared.uses.UseKind.{UseKind}
 use Rattle.qcow2_check.specs.declared.uses.UseKind.TheVariants as kind
-use Rattle.qcow2_layout.proofs.LayoutLemmas.{at-none, at-use}
-use Rattle.qcow2_layout.specs.Parts.{PlacedUse, image_parts, is_free, taken_end, part_at, part_in, part_of, placed_as, unused_part}
-use Rattle.qcow2_layout.specs.declared.parts.Part.{Part}
+use Rattle.qcow2_layout.proofs.PartsLemmas.{at-none, at-use}
+use Rattle.qcow2_layout.specs.Parts.{is_free, taken_end, part_at, part_of, unused_part, use_in}
 use Rattle.qcow2_layout.specs.declared.parts.Part.TheVariants.{Free, Leaked}
 
 -- whether some uses have cluster c, of either kind of list
@@ -25,7 +23,7 @@ abbrev used : List ClusterUse → ℕ → Bool
 used [] c = false
 used (u ∷ us) c = is_among u.clusters c || used us c
 
-abbrev placed : List PlacedUse → ℕ → Bool
+abbrev placed : List Use → ℕ → Bool
 placed [] c = false
 placed (u ∷ us) c = is_among u.clusters c || placed us c
 
@@ -39,11 +37,11 @@ used-is (u ∷ us) c =
     ap (λ n. nat_lt 0 n) (sum_by-cons (λ (w : ClusterUse). one_if (is_among w.clusters c)) u us)
     ∙ some-sum (is_among u.clusters c) (uses_of us c) ∙ ap (λ b. is_among u.clusters c || b) (used-is us c)
 
-placed-is : (us : List PlacedUse) (c : ℕ) → is_some (part_in us c) ≡ placed us c
+placed-is : (us : List Use) (c : ℕ) → is_some (use_in us c) ≡ placed us c
 placed-is [] c = refl
 placed-is (u ∷ us) c = by_use (is_among u.clusters c) refl (placed-is us c)
   where
-    by_use : (has : Bool) → is_among u.clusters c ≡ has → is_some (part_in us c) ≡ placed us c → is_some (part_in (u ∷ us) c) ≡ placed (u ∷ us) c
+    by_use : (has : Bool) → is_among u.clusters c ≡ has → is_some (use_in us c) ≡ placed us c → is_some (use_in (u ∷ us) c) ≡ placed (u ∷ us) c
     by_use true is rest = rw is refl
     by_use false is rest = rw is rest
 
@@ -52,15 +50,11 @@ or-true true = refl
 or-true false = refl
 
 -- the same clusters have uses as parts and as a tally counts them
-same-uses : (cb : ℕ) (uses : List Use) (c : ℕ) → placed (map (placed_as cb) uses) c ≡ used (map counted_use uses) c
-same-uses cb [] c = refl
-same-uses cb (u ∷ us) c = ap (λ b. is_among u.clusters c || b) (same-uses cb us c)
+same-uses : (uses : List Use) (c : ℕ) → placed uses c ≡ used (map counted_use uses) c
+same-uses [] c = refl
+same-uses (u ∷ us) c = ap (λ b. is_among u.clusters c || b) (same-uses us c)
 
--- no use is one as free clusters
-abbrev none-free : List PlacedUse → Bool
-none-free [] = true
-none-free (u ∷ us) = not (is_free u.part) && none-free us
-
+-- no use is one as free clusters, so a cluster with a use isn't free
 taken-part : (cb : ℕ) (k : UseKind) (owner : ℕ) → is_free (part_of cb k owner) ≡ false
 taken-part cb kind.Header owner = refl
 taken-part cb kind.L1Table owner = refl
@@ -70,45 +64,16 @@ taken-part cb kind.L2Table owner = refl
 taken-part cb kind.Data owner = refl
 taken-part cb kind.Compressed owner = refl
 
-none-image : (cb : ℕ) (uses : List Use) → none-free (map (placed_as cb) uses) ≡ true
-none-image cb [] = refl
-none-image cb (u ∷ us) = rw (taken-part cb u.kind u.owner) (none-image cb us)
-
--- so a cluster with a use isn't free
-part-taken : (us : List PlacedUse) (c : ℕ) (part : Part) → none-free us ≡ true → part_in us c ≡ Some part → is_free part ≡ false
-part-taken [] c part none is = absurd (some-none part is)
-  where
-    some-none : (p : Part) → None ≡ Some p → ⊥
-    some-none p same = cc
-part-taken (u ∷ us) c part none is = by_use (is_among u.clusters c) refl (not (is_free u.part)) refl (part-taken us c part)
-  where
-    not-free : (p : Part) → not (is_free p) ≡ true → is_free p ≡ false
-    not-free p taken = by_free (is_free p) refl
-      where
-        by_free : (free : Bool) → is_free p ≡ free → is_free p ≡ false
-        by_free true here = absurd (false≢true (rw here at taken))
-        by_free false here = here
-
-    by_use : (has : Bool) → is_among u.clusters c ≡ has → (taken : Bool) → not (is_free u.part) ≡ taken
-        → (none-free us ≡ true → part_in us c ≡ Some part → is_free part ≡ false) → is_free part ≡ false
-    by_use has own false kind rest = absurd (false≢true (rw kind at none))
-    by_use true own true kind rest =
-        let same : Some u.part ≡ Some part = rw own at is in
-        let parts : u.part ≡ part = cc in
-        subst (λ p. is_free p ≡ false) parts (not-free u.part kind)
-    by_use false own true kind rest = rest (rw kind at none) (rw own at is)
-
 -- a cluster isn't free just where it has a counter other than 0 or a use
 taken-is : (tables : ImageTables) (image : Image) (c : ℕ)
-    → not (is_free (part_at tables image c)) ≡ is_counted tables.header tables.reftable image c || is_some (part_in (image_parts tables image) c)
-taken-is tables image c = by_use (part_in (image_parts tables image) c) refl (is_counted tables.header tables.reftable image c) refl
+    → not (is_free (part_at tables image c)) ≡ is_counted tables.header tables.reftable image c || is_some (use_in (use_list tables image) c)
+taken-is tables image c = by_use (use_in (use_list tables image) c) refl (is_counted tables.header tables.reftable image c) refl
   where
-    by_use : (found : Option Part) → part_in (image_parts tables image) c ≡ found → (counted : Bool) → is_counted tables.header tables.reftable image c ≡ counted
-        → not (is_free (part_at tables image c)) ≡ is_counted tables.header tables.reftable image c || is_some (part_in (image_parts tables image) c)
-    by_use (Some part) is counted says =
-        let taken : is_free part ≡ false = part-taken (image_parts tables image) c part (none-image tables.header.v2.cluster_bits (use_list tables image)) is in
-        let here : part_at tables image c ≡ part = at-use tables image c part is in
-        let first : not (is_free (part_at tables image c)) ≡ true = ap (λ p. not (is_free p)) here ∙ ap not taken in
+    by_use : (found : Option Use) → use_in (use_list tables image) c ≡ found → (counted : Bool) → is_counted tables.header tables.reftable image c ≡ counted
+        → not (is_free (part_at tables image c)) ≡ is_counted tables.header tables.reftable image c || is_some (use_in (use_list tables image) c)
+    by_use (Some u) is counted says =
+        let taken = taken-part tables.header.v2.cluster_bits u.kind u.owner in
+        let first : not (is_free (part_at tables image c)) ≡ true = ap (λ p. not (is_free p)) (at-use tables image c u is) ∙ ap not taken in
         rw (is, says) (first ∙ sym (or-true counted))
     by_use None is true says =
         let here : part_at tables image c ≡ unused_part (counter_of tables.header tables.reftable image c) = at-none tables image c is in
@@ -130,7 +95,7 @@ pub same-end : (tables : ImageTables) (image : Image) → taken_end tables image
 same-end tables image =
     let cb = tables.header.v2.cluster_bits in
     let uses = use_list tables image in
-    let some = λ (c : ℕ). placed-is (image_parts tables image) c ∙ same-uses cb uses c
+    let some = λ (c : ℕ). placed-is uses c ∙ same-uses uses c
     ∙ sym (used-is (map counted_use uses) c) ∙ ap (λ n. nat_lt 0 n) (walked_uses tables image c) in
     let each = λ (c : ℕ). taken-is tables image c ∙ ap (λ b. is_counted tables.header tables.reftable image c || b) (some c) in
     ap (λ n. n * 2 ^ cb)

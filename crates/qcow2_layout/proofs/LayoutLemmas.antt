@@ -1,4 +1,4 @@
-use Rattle.std.proofs.Common.{◌≡◌, ℕ, Bool, true, false, not, ◌+◌, ◌-◌, ◌*◌, ◌/◌, ◌^◌, ◌<◌, ◌≤◌, List, [], ◌∷◌, Option, Some, None, Ok, inl, inr, add-zero, refl, sym, ap, subst, ◌∙◌, arith}
+use Rattle.std.proofs.Common.{◌≡◌, ℕ, Bool, true, false, not, ◌+◌, ◌-◌, ◌*◌, ◌/◌, ◌^◌, ◌<◌, ◌≤◌, List, [], ◌∷◌, Option, Some, None, nat_lt, Ok, inl, inr, add-zero, refl, sym, ap, subst, ◌∙◌, arith}
 use Rattle.std.proofs.lemmas.Bool.{cases_lt, false≢true, true≢false}
 use Rattle.std.proofs.Math.Nat.{add-mul, le-div_iff_mul-le, zero-mul}
 use Rattle.std.proofs.lemmas.Nat.{mul-le, pow_pos}
@@ -8,11 +8,13 @@ use Rattle.qcow2_check.specs.Counters.{counter_of}
 use Rattle.qcow2_summary.specs.ImageEnd.{most_clusters}
 use Rattle.qcow2_check.specs.Tally.{TallyState, cell_at}
 use Rattle.qcow2_check.specs.Uses.{ImageTables}
+use Rattle.qcow2_check.specs.Walk.{IsOwned, use_list}
+use Rattle.qcow2_check.specs.declared.uses.Use.{Use}
 use Rattle.qcow2_summary.proofs.ImageEndLemmas.{IsEnd, end_of-is}
-use Rattle.qcow2_layout.proofs.WindowLemmas.{code-some}
+use Rattle.qcow2_layout.proofs.PartsLemmas.{at-encoded, at-none, at-use, code-some, decoded, encoded, first-owned, further-decoded, further-encoded, part_decoded}
 use Rattle.qcow2_layout.specs.Layout.{AreOne, AreRuns, IsLayoutOf, IsStretch, IsRun, IsWholeRun, LayoutState, MovesLayout, Parts, moved_part, parts_for, layout_tables}
-use Rattle.qcow2_layout.specs.Parts.{image_parts, is_free, taken_end, part_at, part_in, unused_part}
-use Rattle.qcow2_layout.specs.Window.{PlacesAll, cell_of}
+use Rattle.qcow2_layout.specs.Parts.{is_free, taken_end, part_at, unused_part, use_in, used_part}
+use Rattle.qcow2_layout.specs.Window.{PlacesAll, cell_further, cell_of, code_of}
 use Rattle.qcow2_layout.specs.declared.parts.Part.{Part}
 use Rattle.qcow2_layout.specs.declared.parts.Part.TheVariants.{Compressed, Data, Free, Header, L1Table, L2Table, Leaked, RefcountBlock, RefcountTable}
 use Rattle.qcow2_layout.specs.declared.parts.Run.{Run}
@@ -40,20 +42,10 @@ moved-twice a b Leaked = refl
 moved-twice a b Free = refl
 moved-twice a b (Data offset) = grind arith
 
--- what a cluster is by its uses, or by its counter where it has none
-pub at-use : (tables : ImageTables) (image : Image) (c : ℕ) (part : Part) → part_in (image_parts tables image) c ≡ Some part → part_at tables image c ≡ part
-unfolding part_at
-at-use tables image c part is = rw (is, part_at) refl
-
-pub at-none : (tables : ImageTables) (image : Image) (c : ℕ) → part_in (image_parts tables image) c ≡ None
-    → part_at tables image c ≡ unused_part (counter_of tables.header tables.reftable image c)
-unfolding part_at
-at-none tables image c is = rw (is, part_at) refl
-
 -- a cell of 0 has no use
-no-use : (found : Option Part) (cell : ℕ) → cell ≡ cell_of found → cell ≡ 0 → found ≡ None
+no-use : (found : Option Use) (cell : ℕ) → cell ≡ cell_of found → cell ≡ 0 → found ≡ None
 no-use None cell is none = refl
-no-use (Some part) cell is none = absurd (omega (arith, is, none, code-some part))
+no-use (Some used) cell is none = absurd (omega (arith, is, none, code-some used.kind used.owner))
 
 -- one cluster is a piece
 one-piece : (cb : ℕ) (parts : Parts) (from : ℕ) (part : Part) → parts from ≡ part → IsStretch cb parts from (part, from + 1)
@@ -65,49 +57,133 @@ one-piece cb parts from part is = (
       subst (λ n. parts (from + n) ≡ moved_part (n * 2 ^ cb) part) none here,
 )
 
--- a cluster that has a use is one of its part
-pub used-piece : (reader : LayoutState) (window : TallyState) (image : Image) (from : ℕ) (part : Part) → reader.window ≡ Some window → IsLayoutOf image reader
-    → window.first ≤ from → from < window.end → ((found : Option Part) → cell_at window from ≡ cell_of found → Some part ≡ found)
-    → IsStretch reader.header.v2.cluster_bits (parts_for reader image) from (part, from + 1)
-used-piece reader window image from part has reads first end is =
-    let uses = image_parts (layout_tables reader) image in
-    let found : Some part ≡ part_in uses from = is (part_in uses from) ((rw has at reads.placed) from first end) in
-    one-piece reader.header.v2.cluster_bits (parts_for reader image) from part (at-use (layout_tables reader) image from part (sym found))
+-- a cell further on in a run isn't 0
+further-some : (cell count : ℕ) → 0 < cell → cell_further cell count ≡ 0 → ⊥
+further-some cell count some none = by_test (nat_lt cell 7) refl
+  where
+    by_test : (small : Bool) → nat_lt cell 7 ≡ small → ⊥
+    by_test true is = omega (arith, some, rw is at none)
+    by_test false is = omega (arith, some, rw is at none)
 
--- one that has none is free or leaked
+-- the part of a cluster with this cell, as one further on from that of a first use
+part-further : (tables : ImageTables) (image : Image) (c cell : ℕ) (first : Use) (count : ℕ) → cell ≡ cell_of (use_in (use_list tables image) c)
+    → cell ≡ cell_further (code_of first.kind first.owner) count
+    → part_at tables image c ≡ moved_part (count * 2 ^ tables.header.v2.cluster_bits) (used_part tables.header.v2.cluster_bits first)
+part-further tables image c cell first count is further = by_use (use_in (use_list tables image) c) refl
+  where
+    cb : ℕ
+    cb = tables.header.v2.cluster_bits
+
+    by_use : (found : Option Use) → use_in (use_list tables image) c ≡ found
+        → part_at tables image c ≡ moved_part (count * 2 ^ cb) (used_part cb first)
+    by_use None none =
+        let zero_cell : cell ≡ 0 = rw none at is in
+        let some = code-some first.kind first.owner in
+        absurd (further-some (code_of first.kind first.owner) count some (sym further ∙ zero_cell))
+    by_use (Some used) has =
+        let code : cell ≡ code_of used.kind used.owner = rw has at is in
+        at-use tables image c used has ∙ part_decoded cb used.kind used.owner ∙ ap (decoded cb) (sym code ∙ further)
+        ∙ further-decoded cb first.kind first.owner count
+
+-- clusters whose cells are one run are one
+pub used-stretch : (reader : LayoutState) (window : TallyState) (image : Image) (from to : ℕ) (part : Part) → reader.window ≡ Some window → IsLayoutOf image reader
+    → window.first ≤ from → from < to → to ≤ window.end → (cell_at window from ≡ 0 → ⊥)
+    → ((used : Use) → IsOwned used → cell_at window from ≡ code_of used.kind used.owner → Some part ≡ Some (used_part reader.header.v2.cluster_bits used))
+    → ((k : ℕ) → from + k < to → cell_at window (from + k) ≡ cell_further (cell_at window from) k)
+    → IsStretch reader.header.v2.cluster_bits (parts_for reader image) from (part, to)
+used-stretch reader window image from to part has reads first some end used is one = by_use (use_in uses from) refl
+  where
+    tables : ImageTables
+    tables = layout_tables reader
+
+    uses : List Use
+    uses = use_list tables image
+
+    placed : PlacesAll tables image window
+    placed = rw has at reads.placed
+
+    by_use : (found : Option Use) → use_in uses from ≡ found → IsStretch reader.header.v2.cluster_bits (parts_for reader image) from (part, to)
+    by_use None none = absurd (used (placed.cells from first (omega (arith, some, end)) ∙ ap cell_of none))
+    by_use (Some found) here =
+        let code : cell_at window from ≡ code_of found.kind found.owner = placed.cells from first (omega (arith, some, end)) ∙ ap cell_of here in
+        let owned : IsOwned found = rw here at (first-owned uses from placed.owned) in
+        let same : part ≡ used_part reader.header.v2.cluster_bits found = let both = is found owned code in cc in (
+          some,
+          λ k below.
+              let within : from + k < to = omega (arith, below, some) in
+              let cell = placed.cells (from + k) (omega (arith, first)) (omega (arith, within, end)) in
+              let further = one k within ∙ ap (λ n. cell_further n k) code in
+              part-further tables image (from + k) (cell_at window (from + k)) found k cell further ∙ ap (λ p. moved_part (k * 2 ^ reader.header.v2.cluster_bits) p) (sym same),
+        )
+
+-- and a whole run where the next cell doesn't go on from them
+pub used-run : (reader : LayoutState) (window : TallyState) (image : Image) (limit from to : ℕ) (part : Part) → reader.window ≡ Some window → IsLayoutOf image reader
+    → window.first ≤ from → from < to → to < window.end → (cell_at window from ≡ 0 → ⊥)
+    → ((used : Use) → IsOwned used → cell_at window from ≡ code_of used.kind used.owner → Some part ≡ Some (used_part reader.header.v2.cluster_bits used))
+    → ((k : ℕ) → from + k < to → cell_at window (from + k) ≡ cell_further (cell_at window from) k)
+    → (cell_at window to ≡ cell_further (cell_at window from) (to - from) → ⊥)
+    → IsWholeRun reader.header.v2.cluster_bits (parts_for reader image) limit from (part, to)
+used-run reader window image limit from to part has reads first some end used is one differs = (
+  used-stretch reader window image from to part has reads first some (omega (arith, end)) used is one,
+  λ before same. by_use (use_in uses from) refl same,
+)
+  where
+    tables : ImageTables
+    tables = layout_tables reader
+
+    cb : ℕ
+    cb = reader.header.v2.cluster_bits
+
+    uses : List Use
+    uses = use_list tables image
+
+    placed : PlacesAll tables image window
+    placed = rw has at reads.placed
+
+    by_use : (found : Option Use) → use_in uses from ≡ found → parts_for reader image to ≡ moved_part ((to - from) * 2 ^ cb) part → ⊥
+    by_use None none same = used (placed.cells from first (omega (arith, some, end)) ∙ ap cell_of none)
+    by_use (Some found) here same =
+        let code : cell_at window from ≡ code_of found.kind found.owner = placed.cells from first (omega (arith, some, end)) ∙ ap cell_of here in
+        let owned : IsOwned found = rw here at (first-owned uses from placed.owned) in
+        let first_part : part ≡ used_part cb found = let both = is found owned code in cc in
+        let next : cell_at window to ≡ encoded cb (parts_for reader image to) = placed.cells to (omega (arith, first, some)) end ∙ sym (at-encoded tables image to) in
+        differs (next ∙ ap (encoded cb) (same ∙ ap (moved_part ((to - from) * 2 ^ cb)) first_part)
+        ∙ further-encoded cb found.kind found.owner (to - from) ∙ ap (λ n. cell_further n (to - from)) (sym code))
+
+-- a cluster that has no use is free or leaked
 pub counted-piece : (reader : LayoutState) (window : TallyState) (image : Image) (from counter : ℕ) (part : Part) → reader.window ≡ Some window → IsLayoutOf image reader
-    → window.first ≤ from → from < window.end → ((found : Option Part) → cell_at window from ≡ cell_of found → None ≡ found)
+    → window.first ≤ from → from < window.end → cell_at window from ≡ 0
     → counter ≡ counter_of reader.header reader.counters.reftable image from → part ≡ unused_part counter
     → IsStretch reader.header.v2.cluster_bits (parts_for reader image) from (part, from + 1)
-counted-piece reader window image from counter part has reads first end is counts says =
-    let uses = image_parts (layout_tables reader) image in
-    let none : None ≡ part_in uses from = is (part_in uses from) ((rw has at reads.placed) from first end) in
+counted-piece reader window image from counter part has reads first end none counts says =
+    let placed : PlacesAll (layout_tables reader) image window = rw has at reads.placed in
+    let found = no-use _ _ (placed.cells from first end) none in
     one-piece reader.header.v2.cluster_bits (parts_for reader image) from part
-    (at-none (layout_tables reader) image from (sym none) ∙ ap unused_part (sym counts) ∙ sym says)
+    (at-none (layout_tables reader) image from found ∙ ap unused_part (sym counts) ∙ sym says)
 
 -- and clusters that have none are free where their counters are 0
 pub free-piece : (reader : LayoutState) (window : TallyState) (image : Image) (from to : ℕ) → reader.window ≡ Some window → IsLayoutOf image reader
-    → window.first ≤ from → from < to → to ≤ window.end → ((found : Option Part) → cell_at window from ≡ cell_of found → None ≡ found)
+    → window.first ≤ from → from < to → to ≤ window.end → cell_at window from ≡ 0
     → ((c : ℕ) → from + 1 ≤ c → c < to → cell_at window c ≡ 0)
     → counter_of reader.header reader.counters.reftable image from ≡ 0
     → ((c : ℕ) → from + 1 ≤ c → c < to → counter_of reader.header reader.counters.reftable image c ≡ 0)
     → IsStretch reader.header.v2.cluster_bits (parts_for reader image) from (Free, to)
-free-piece reader window image from to has reads first some end is unused zero zeros = (
+free-piece reader window image from to has reads first some end none unused zero zeros = (
   some,
   λ k below.
-      let uses = image_parts (layout_tables reader) image in
+      let uses = use_list (layout_tables reader) image in
       let placed : PlacesAll (layout_tables reader) image window = rw has at reads.placed in
       let within : from + k < to = omega (arith, below, some) in
       elim (cases_lt from (from + k)) [
         | inl after ↦
-            let none : part_in uses (from + k) ≡ None =
-            no-use (part_in uses (from + k)) (cell_at window (from + k)) (placed (from + k) (omega (arith, first)) (omega (arith, within, end)))
+            let found : use_in uses (from + k) ≡ None =
+            no-use (use_in uses (from + k)) (cell_at window (from + k)) (placed.cells (from + k) (omega (arith, first)) (omega (arith, within, end)))
             (unused (from + k) (omega (arith, after)) within) in
-            at-none (layout_tables reader) image (from + k) none ∙ ap unused_part (zeros (from + k) (omega (arith, after)) within)
+            at-none (layout_tables reader) image (from + k) found ∙ ap unused_part (zeros (from + k) (omega (arith, after)) within)
         | inr here ↦
             let same : from ≡ from + k = omega (arith, here) in
-            let found : None ≡ part_in uses from = is (part_in uses from) (placed from first (omega (arith, some, end))) in
-            let free : parts_for reader image from ≡ Free = at-none (layout_tables reader) image from (sym found) ∙ ap unused_part zero in
+            let found = no-use _ _ (placed.cells from first (omega (arith, some, end))) none in
+            let free : parts_for reader image from ≡ Free = at-none (layout_tables reader) image from found ∙ ap unused_part zero in
             subst (λ c. parts_for reader image c ≡ Free) same free
       ],
 )

@@ -142,7 +142,54 @@ impl<'a> Layout<'a> {
     }
 
     // Moves the reader past the run that begins at its position, and returns the run's part.
+    #[inline]
     fn pass_run<S: Storage>(&mut self, image: &mut S) -> Result<Part, Fault>
+        requires before { self.old.position < most_clusters self.old.header }
+        requires reader { OnImage (S.state image.old) (λ bytes. IsLayoutOf bytes self.old) }
+        ensures run { IfOk result (λ part. OnImage (S.state image.old) (λ bytes.
+            IsWholeRun self.old.header.v2.cluster_bits (parts_for self.old bytes)
+            (most_clusters self.old.header) self.old.position (part, self.new.position))) }
+        ensures further { MatchResult result
+            (λ part. (self.old.position < self.new.position)
+            × (self.new.position ≤ most_clusters self.old.header))
+            (λ fault. self.new.position ≡ self.old.position) }
+        ensures reader { MovesLayout (S.state image.old) self.old self.new }
+        ensures fault { IfErr result (IsLaterFault (S.state image.old)) }
+        ensures storage { OnlyReads result (S.state image.old) (S.state image.new) }
+    {
+        match self.used_run() {
+            Some((part, end)) => {
+                self.position = end;
+                Ok(part)
+            }
+            None => self.pass_pieces(image),
+        }
+    }
+
+    // The part and the end of the run that begins at the reader's position, if the consecutive cells of the
+    // window show both.
+    #[inline]
+    fn used_run(&self) -> Option<(Part, u64)>
+        ensures run { IfSome result (λ run. (image : Image) → IsLayoutOf image self.now →
+            IsWholeRun self.now.header.v2.cluster_bits (parts_for self.now image)
+            (most_clusters self.now.header) self.now.position run) }
+        ensures within { IfSome result (λ run. (self.now.position < run.1)
+            × (run.1 ≤ most_clusters self.now.header)) }
+    {
+        if !self.has_window(self.position) {
+            return None;
+        }
+        let window = self.window.as_ref().unwrap();
+        let part = Part::of_cell(window.cell(self.position), self.header.cluster_bits())?;
+        let end = window.run_end(self.position);
+        if window.is_dense(end) && end <= most_clusters(self.header) {
+            return Some((part, end));
+        }
+        None
+    }
+
+    // `pass_run`, piece by piece.
+    fn pass_pieces<S: Storage>(&mut self, image: &mut S) -> Result<Part, Fault>
         requires before { self.old.position < most_clusters self.old.header }
         requires reader { OnImage (S.state image.old) (λ bytes. IsLayoutOf bytes self.old) }
         ensures run { IfOk result (λ part. OnImage (S.state image.old) (λ bytes.
@@ -211,8 +258,9 @@ impl<'a> Layout<'a> {
         ensures storage { OnlyReads result (S.state image.old) (S.state image.new) }
     {
         let window = self.window.as_ref().unwrap();
-        if let Some(part) = Part::of_cell(window.cell(from)) {
-            return Ok((part, from + 1));
+        if let Some(part) = Part::of_cell(window.cell(from), self.header.cluster_bits()) {
+            let end = window.run_end(from).min(most_clusters(self.header));
+            return Ok((part, end));
         }
         let counter = self.counters.get_in_order(image, HostCluster(from))?;
         if counter != 0 {

@@ -1,14 +1,35 @@
 //! The parts of an image that a host cluster can be.
 
-ghost use Rattle.std.specs.Prelude.{◌≡◌, ◌↔◌, ◌<◌, ◌^◌, IsTrue, Option};
+ghost use Rattle.std.specs.Prelude.{◌≡◌, ◌↔◌, ◌<◌, IsTrue, None, Some};
+ghost use Rattle.qcow2_base.specs.Types.{IsClusterBits};
+ghost use Rattle.qcow2_check.specs.Walk.{IsOwned, most_owners};
+ghost use Rattle.qcow2_check.specs.declared.uses.Use.{Use as AnyUse};
 ghost use Rattle.qcow2_layout.specs.Layout.{moved_part};
-ghost use Rattle.qcow2_layout.specs.Parts.{code_of, unused_part};
-ghost use Rattle.qcow2_layout.specs.Window.{cell_of};
+ghost use Rattle.qcow2_layout.specs.Parts.{unused_part, used_part};
+ghost use Rattle.qcow2_layout.specs.Window.{code_of};
 
 use qcow2_base::{GuestOffset, HostCluster};
+use qcow2_check::UseKind;
 
-// The code of guest data at offset 0. The smaller numbers are codes of the other parts.
-const DATA_CODE: u64 = 9;
+/// The code of guest data of guest cluster 0. The smaller numbers are codes of the other kinds.
+pub(crate) const DATA_CODE: u64 = 7;
+
+/// The code, in a cell, of a cluster whose first reference is of this kind.
+#[inline(always)]
+pub(crate) fn code_of(kind: UseKind, owner: u64) -> u64
+    requires { owner < most_owners kind }
+    ensures { result ≡ code_of kind owner }
+{
+    match kind {
+        UseKind::Header => 1,
+        UseKind::L1Table => 2,
+        UseKind::RefcountTable => 3,
+        UseKind::RefcountBlock => 4,
+        UseKind::L2Table => 5,
+        UseKind::Compressed => 6,
+        UseKind::Data => DATA_CODE + owner,
+    }
+}
 
 /// What a host cluster is. One with references of several kinds is the first of these that applies, except
 /// that guest and compressed data go by the lowest guest offset.
@@ -46,29 +67,14 @@ pub struct Run {
 }
 
 impl Part {
-    // The code of the part in a cell.
-    #[inline(always)]
-    pub(crate) fn code(self) -> u64
-        requires { code_of self < 2 ^ 64 }
-        ensures { result ≡ code_of self }
-    {
-        match self {
-            Part::Header => 1,
-            Part::L1Table => 2,
-            Part::RefcountTable => 3,
-            Part::RefcountBlock => 4,
-            Part::L2Table => 5,
-            Part::Compressed => 6,
-            Part::Leaked => 7,
-            Part::Free => 8,
-            Part::Data(offset) => DATA_CODE + offset.0,
-        }
-    }
-
-    // The part whose code a cell holds. `None` for 0.
+    // The part of a cluster with this cell. `None` for 0.
     #[inline]
-    pub(crate) fn of_cell(cell: u64) -> Option<Part>
-        ensures { (part : Option Part) → cell ≡ cell_of part → result ≡ part }
+    #[tactic(auto, using(crate::proofs::PartsLemmas::part_decoded))]
+    pub(crate) fn of_cell(cell: u64, cluster_bits: u32) -> Option<Part>
+        requires { IsClusterBits cluster_bits }
+        ensures none { result ≡ None ↔ cell ≡ 0 }
+        ensures some { (used : AnyUse) → IsOwned used → cell ≡ code_of used.kind used.owner →
+            result ≡ Some (used_part cluster_bits used) }
     {
         match cell {
             0 => None,
@@ -78,9 +84,7 @@ impl Part {
             4 => Some(Part::RefcountBlock),
             5 => Some(Part::L2Table),
             6 => Some(Part::Compressed),
-            7 => Some(Part::Leaked),
-            8 => Some(Part::Free),
-            _ => Some(Part::Data(GuestOffset(cell - DATA_CODE))),
+            _ => Some(Part::Data(GuestOffset((cell - DATA_CODE) << cluster_bits))),
         }
     }
 

@@ -1,38 +1,44 @@
 //! The parts of some of an image's clusters by their references, in bounded memory.
 
-ghost use Rattle.std.specs.Prelude.{◌≡◌, ℕ, ◌+◌, ◌-◌, ◌^◌, ◌<◌, ◌≤◌, [], ◌∷◌, IfOk, IsOkUnless, OnOk, length, replicate};
+ghost use Rattle.std.specs.Prelude.{◌≡◌, ℕ, ◌+◌, ◌-◌, ◌^◌, ◌<◌, ◌≤◌, [], ◌∷◌, false, IfOk, IsOkUnless, IsTrue, OnOk, length, replicate};
 ghost use Rattle.qcow2_base.specs.Format.{max_file_length};
 ghost use Rattle.qcow2_base.specs.declared.fault.Fault.TheVariants.{NoMemory};
 ghost use Rattle.qcow2_check.specs.Tally.{cell_at, dense_end};
-ghost use Rattle.qcow2_layout.specs.Parts.{HasCode, placed_use};
-ghost use Rattle.qcow2_layout.specs.Window.{PlacesMore};
+ghost use Rattle.qcow2_check.specs.Walk.{most_guest_clusters, most_owners, one_use, row_list};
+ghost use Rattle.qcow2_layout.specs.Window.{PlacesMore, cell_further};
 
-use crate::parts::Part;
+mod cells;
+
+use crate::parts::{DATA_CODE, code_of};
+use cells::Cells;
+pub(crate) use cells::TOGETHER;
 use qcow2_base::{Fault, MAX_FILE_LENGTH};
+use qcow2_check::UseKind;
 use std::alloc::Global;
 use std::collections::BTreeMap;
 use std::marker::Model;
 
-/// The parts of clusters from a first one on, by their references: the code of a part for each, or 0 for a
-/// cluster without a reference. Contracts see cells.
+/// The parts of clusters from a first one on, by their references: a cell for each, which holds the code of
+/// its first reference, or 0 without one. Contracts see cells.
 #[derive(Drop)]
 pub(crate) struct Window {
     first: u64,
     end: u64,
-    dense: Vec<u64>,
+    dense: Cells,
     sparse: BTreeMap<u64, u64>,
     most: usize,
 }
 
 impl Model for Window {
     ghost use Rattle.qcow2_check.specs.Tally.{IsTally, TallyState};
+    ghost use Rattle.qcow2_layout.specs.Window.Cells.{window_cells};
 
     ghost Value = { TallyState };
 
     ghost view = { λ w. record {
       first = w.first;
       end = w.end;
-      dense = w.dense.items;
+      dense = window_cells w.dense;
       sparse = w.sparse.entries;
       most = w.most;
     } };
@@ -40,19 +46,26 @@ impl Model for Window {
     ghost invariant = { λ w. IsTally (record {
       first = w.first;
       end = w.end;
-      dense = w.dense.items;
+      dense = window_cells w.dense;
       sparse = w.sparse.entries;
       most = w.most;
     }) };
 }
 
 impl Window {
-    ghost use Rattle.std.specs.Prelude.{◌≡◌, ◌↔◌, ◌+◌, ◌<◌, ◌≤◌, IsTrue, length, replicate};
+    ghost use Rattle.std.specs.Prelude.{◌≡◌, ◌≢◌, ◌↔◌, ◌+◌, ◌<◌, ◌≤◌, IsTrue, length, replicate};
     ghost use Rattle.qcow2_check.specs.Tally.{cell_at, dense_end};
 
     /// A window from cluster `first` on, without references. The next `dense` clusters have consecutive
-    /// cells, and up to `most` clusters after them have cells in a map. Fails only if memory runs out.
-    pub(crate) fn new(alloc: Global, first: u64, dense: usize, most: usize) -> Result<Window, Fault>
+    /// cells, of 64 bits if `is_wide`, else of 32, and up to `most` clusters after them have cells in a map.
+    /// Fails only if memory runs out.
+    pub(crate) fn new(
+        alloc: Global,
+        first: u64,
+        dense: usize,
+        most: usize,
+        is_wide: bool,
+    ) -> Result<Window, Fault>
         requires some { 0 < dense }
         requires fits { first + dense ≤ max_file_length }
         ensures fault { IsOkUnless result NoMemory }
@@ -62,7 +75,7 @@ impl Window {
         Ok(Window {
             first,
             end: MAX_FILE_LENGTH,
-            dense: vec![in alloc; 0; dense]?,
+            dense: Cells::zeros(alloc, dense, is_wide)?,
             sparse: BTreeMap::new(alloc),
             most,
         })
@@ -88,15 +101,15 @@ impl Window {
 
     /// The number of clusters with a reference. May include some at or after `end`.
     pub(crate) fn used(&self) -> usize {
-        let dense = self.dense.iter().filter(|cell| **cell != 0).count();
-        dense.saturating_add(self.sparse.len())
+        self.dense.used().saturating_add(self.sparse.len())
     }
 
     /// Whether a cluster has one of the consecutive cells. Those of all later ones are in the map.
     #[inline]
     pub(crate) fn is_dense(&self, cluster: u64) -> bool
         requires { self.now.first ≤ cluster }
-        ensures { IsTrue result ↔ (cluster < dense_end self.now) }
+        ensures dense { IsTrue result ↔ (cluster < dense_end self.now) }
+        ensures held { IsTrue result → cluster < self.now.end }
     {
         cluster - self.first < self.dense.len() as u64
     }
@@ -109,7 +122,7 @@ impl Window {
     {
         let index = (cluster - self.first) as usize;
         if index < self.dense.len() {
-            return self.dense[index];
+            return self.dense.get(index);
         }
         self.sparse.get(&cluster).copied().unwrap_or(0)
     }
@@ -124,7 +137,7 @@ impl Window {
     {
         let dense_end = self.first + self.dense.len() as u64;
         for cluster in from..limit.min(dense_end) {
-            if self.dense[(cluster - self.first) as usize] != 0 {
+            if self.dense.get((cluster - self.first) as usize) != 0 {
                 return cluster;
             }
         }
@@ -134,13 +147,35 @@ impl Window {
         }
     }
 
-    /// Gives a cluster a part, if the window holds the cluster and it has none yet. If the map then has too
-    /// many cells, the window drops the last of them and ends before its cluster.
+    /// The end of clusters from one on whose cells are one run: those of guest data are codes of consecutive
+    /// guest clusters, others are equal. It is before all clusters with cells in the map, unless `from` has
+    /// one. The run ends there if that is a cluster with a consecutive cell.
     #[inline]
-    pub(crate) fn put(&mut self, cluster: u64, part: Part) -> Result<(), Fault>
-        requires { HasCode part }
+    #[tactic(auto, using(crate::proofs::WindowLemmas::run_cells, crate::proofs::WindowLemmas::run_ends))]
+    pub(crate) fn run_end(&self, from: u64) -> u64
+        requires first { self.now.first ≤ from }
+        requires end { from < self.now.end }
+        ensures within { (from < result) × (result ≤ self.now.end) }
+        ensures one { (k : ℕ) → from + k < result →
+            cell_at self.now (from + k) ≡ cell_further (cell_at self.now from) k }
+        ensures ends { result < dense_end self.now →
+            cell_at self.now result ≢ cell_further (cell_at self.now from) (result - from) }
+    {
+        let index = (from - self.first) as usize;
+        if index >= self.dense.len() {
+            return from + 1;
+        }
+        self.first + self.dense.run_end(index) as u64
+    }
+
+    /// Gives a cluster the code of a reference, if the window holds the cluster and it has none yet. If the
+    /// map then has too many cells, the window drops the last of them and ends before its cluster. Fails if
+    /// memory runs out or a narrow cell can't hold the code (fault 35).
+    #[inline]
+    pub(crate) fn put(&mut self, cluster: u64, kind: UseKind, owner: u64) -> Result<(), Fault>
+        requires { owner < most_owners kind }
         ensures fault { IsOkUnless result NoMemory }
-        ensures placed { OnOk result (PlacesMore (placed_use part (record { 0 = cluster }) 1 ∷ [])
+        ensures placed { OnOk result (PlacesMore (one_use kind (record { 0 = cluster }) 1 owner ∷ [])
             self.old self.new) }
     {
         if cluster < self.first || cluster >= self.end {
@@ -148,28 +183,42 @@ impl Window {
         }
         let index = (cluster - self.first) as usize;
         if index >= self.dense.len() {
-            return self.put_sparse(cluster, part);
+            return self.put_sparse(cluster, kind, owner);
         }
-        if self.dense[index] == 0 {
-            self.dense[index] = part.code();
+        if !self.dense.put(index, code_of(kind, owner)) {
+            return Err(Fault::NoMemory);
         }
         Ok(())
     }
 
+    /// Gives `TOGETHER` clusters from `first` on the codes of guest data, from guest cluster `guest` on, as
+    /// `put` does. Returns false and changes nothing if one of them has no narrow dense cell.
+    #[inline]
+    pub(crate) fn put_row(&mut self, first: u64, guest: u64) -> bool
+        requires { guest + 16 ≤ most_guest_clusters }
+        ensures placed { IsTrue result → PlacesMore (row_list first guest 16) self.old self.new }
+        ensures same { result ≡ false → self.new ≡ self.old }
+    {
+        first >= self.first
+            && self
+                .dense
+                .put_group((first - self.first) as usize, DATA_CODE + guest)
+    }
+
     // `put` for a cluster after the dense cells.
     #[inline(never)]
-    fn put_sparse(&mut self, cluster: u64, part: Part) -> Result<(), Fault>
-        requires code { HasCode part }
+    fn put_sparse(&mut self, cluster: u64, kind: UseKind, owner: u64) -> Result<(), Fault>
+        requires owner { owner < most_owners kind }
         requires after { dense_end self.old ≤ cluster }
         requires before { cluster < self.old.end }
         ensures fault { IsOkUnless result NoMemory }
-        ensures placed { OnOk result (PlacesMore (placed_use part (record { 0 = cluster }) 1 ∷ [])
+        ensures placed { OnOk result (PlacesMore (one_use kind (record { 0 = cluster }) 1 owner ∷ [])
             self.old self.new) }
     {
         if self.sparse.get(&cluster).copied().unwrap_or(0) != 0 {
             return Ok(());
         }
-        self.sparse.insert(cluster, part.code())?;
+        self.sparse.insert(cluster, code_of(kind, owner))?;
         if self.sparse.len() > self.most {
             if let Some((last, _)) = self.sparse.pop_last() {
                 self.end = self.end.min(last);

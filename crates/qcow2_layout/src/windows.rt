@@ -8,9 +8,11 @@ ghost use Rattle.qcow2_metadata.specs.Results.{Reads};
 ghost use Rattle.qcow2_metadata.specs.Table.{IsEntryFault};
 ghost use Rattle.qcow2_check.specs.Counters.{IsCountedEnd};
 ghost use Rattle.qcow2_check.specs.Uses.{all_load};
+ghost use Rattle.qcow2_check.specs.Windows.{cell_bytes};
 ghost use Rattle.qcow2_layout.specs.Window.{PlacesAll};
 ghost use Rattle.qcow2_layout.specs.Windows.{IsSize, most_window_bytes};
 
+use crate::parts::DATA_CODE;
 use crate::places::place_image;
 use crate::window::Window;
 use qcow2_base::{Fault, MAX_FILE_LENGTH, Storage};
@@ -20,29 +22,34 @@ use qcow2_metadata::Table;
 // The fewest dense cells of a window.
 const FEW_CELLS: u64 = 4096;
 
-// The most bytes that dense cells take, together with a decoded refcount block. With blocks of 64 KiB, two
-// windows suffice for 1 TiB in clusters of 64 KiB, and its tables.
+// The most bytes that dense cells take, together with a decoded refcount block. If the cells are narrow and
+// blocks have 64 KiB, that suffices for 1 TiB in clusters of 64 KiB, and its tables.
 const MOST_BYTES: u64 = 68 << 20;
 
 // The most cells in the map.
 const MOST_SPARSE: usize = 1 << 20;
 
-// The number of dense cells of a window, and the most cells in its map.
+// The fewest guest clusters that narrow cells have no codes for.
+const MANY_CLUSTERS: u64 = u32::MAX as u64 - DATA_CODE;
+
+// The number of dense cells of a window, the most cells in its map, and whether the dense ones are wide.
 #[derive(Clone, Copy)]
 struct Size {
     dense: usize,
     most: usize,
+    is_wide: bool,
 }
 
 // The number of dense cells in a window, given how many clusters from its first on the refcount blocks count,
 // and how many bytes its cells may take.
-fn dense_cells(counted: u64, room: u64) -> usize
+fn dense_cells(counted: u64, room: u64, is_wide: bool) -> usize
     requires room { (2 ^ 20 ≤ room) × (room ≤ most_window_bytes) }
     ensures some { 0 < result }
-    ensures bytes { result * 8 ≤ most_window_bytes }
-    ensures all { counted * 8 ≤ room → counted ≤ result }
+    ensures bytes { result * cell_bytes is_wide ≤ most_window_bytes }
+    ensures all { counted * cell_bytes is_wide ≤ room → counted ≤ result }
 {
-    counted.clamp(FEW_CELLS, room / 8) as usize
+    let most = if is_wide { room / 8 } else { room / 4 };
+    counted.clamp(FEW_CELLS, most) as usize
 }
 
 /// The windows of an image: groups of clusters whose parts are held at once, in bounded memory. The size of
@@ -53,6 +60,8 @@ pub(crate) struct Windows {
     counted: u64,
     // The bytes of a decoded refcount block.
     block_bytes: u64,
+    // Whether guest data may have a code that doesn't fit a narrow cell.
+    is_wide: bool,
     // Whether an earlier window had few clusters with references: later windows then use mostly the map.
     is_sparse: bool,
 }
@@ -64,9 +73,11 @@ impl Windows {
         ensures is_sparse { result.is_sparse ≡ false }
     {
         let header = tables.header;
+        let l1_entries = tables.l1_table.entries() as u64;
         Windows {
             counted: counted_end(header, tables.reftable),
             block_bytes: header.rb_entries().max(header.cluster_size()) as u64,
+            is_wide: l1_entries.saturating_mul(header.l2_entries() as u64) >= MANY_CLUSTERS,
             is_sparse: false,
         }
     }
@@ -81,13 +92,16 @@ impl Windows {
             return Size {
                 dense: left.min(FEW_CELLS) as usize,
                 most: MOST_SPARSE,
+                is_wide: self.is_wide,
             };
         }
         let counted = self.counted.saturating_sub(first);
         let room = MOST_BYTES - self.block_bytes.min(MOST_BYTES / 2);
+        let dense = dense_cells(counted, room, self.is_wide) as u64;
         Size {
-            dense: left.min(dense_cells(counted, room) as u64) as usize,
+            dense: left.min(dense) as usize,
             most: 0,
+            is_wide: self.is_wide,
         }
     }
 
@@ -110,9 +124,13 @@ impl Windows {
             × (window.end ≤ max_file_length)) }
         ensures same { self.new ≡ record self.old { is_sparse = self.new.is_sparse } }
     {
-        let Size { dense, most } = self.size_at(first);
+        let Size {
+            dense,
+            most,
+            is_wide,
+        } = self.size_at(first);
         let alloc = tables.l1_table.allocator();
-        let unused = Window::new(alloc, first, dense, most)?;
+        let unused = Window::new(alloc, first, dense, most, is_wide)?;
         let window = place_image(unused, image, tables)?;
         prove!(first < window.end());
         // Counting the cells takes long, so do it only if there are later windows.

@@ -2,7 +2,7 @@ use Rattle.std.proofs.Common.{◌≡◌, ◌-◌, ◌<◌, ◌≤◌, Ok}
 use Rattle.qcow2_base.specs.Storage.{OnImage, OnlyReads}
 use Rattle.qcow2_summary.specs.ImageEnd.{most_clusters}
 use Rattle.qcow2_layout.specs.Layout.{AreOne, MovesLayout, parts_for}
-use Rattle.qcow2_layout.proofs.layout.Layout.pass_run.Given as goal
+use Rattle.qcow2_layout.proofs.layout.Layout.pass_pieces.Given as goal
 
 -- the clusters up to the end so far are one, and the reader reads the same image and is at the same cluster
 abbrev pub invariant-loop-end : goal.invariant-loop-end

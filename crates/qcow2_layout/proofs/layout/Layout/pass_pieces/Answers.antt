@@ -7,7 +7,7 @@ use Rattle.qcow2_layout.proofs.LayoutLemmas.{moves-twice, pieces-join, run-that-
 use Rattle.qcow2_layout.specs.Layout.{IsStretch, LayoutState, parts_for}
 use Rattle.qcow2_layout.specs.Parts.{part_at}
 use Rattle.qcow2_layout.specs.declared.parts.Part.{Part}
-use Rattle.qcow2_layout.proofs.layout.Layout.pass_run.Goals as goal
+use Rattle.qcow2_layout.proofs.layout.Layout.pass_pieces.Goals as goal
 
 pub returns-then-not-goes_on_as-clause-run : goal.returns-then-not-goes_on_as-clause-run
 returns-then-not-goes_on_as-clause-run g c = λ told.
