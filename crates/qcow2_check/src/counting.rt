@@ -63,18 +63,18 @@ fn count_entry(tally: &mut Tally, entry: L2Entry, cluster_bits: u32) -> Result<(
     }
 }
 
-// Whether an L2 entry refers to a cluster. Has no branch, since the processor couldn't predict it.
+/// Whether an L2 entry refers to a cluster. Has no branch, since the processor couldn't predict it.
 #[inline(always)]
-fn refers(entry: L2Entry) -> bool
+pub fn refers(entry: L2Entry) -> bool
     ensures { (cb : ℕ) → result ≡ is_some (allocation (geometry cb false) entry) }
 {
     entry.is_compressed() | (field(entry.to_plain(), 9, 47) != 0)
 }
 
-// The first and the last cluster that an L2 entry refers to, if it refers to any. Has no branch either.
+/// The first and the last cluster that an L2 entry refers to, if it refers to any. Has no branch either.
 #[inline(always)]
 #[tactic(auto, using(crate::proofs::UsesLemmas::compressed_ends, crate::proofs::UsesLemmas::standard_ends))]
-fn cluster_bounds(entry: L2Entry, cluster_bits: u32) -> (u64, u64)
+pub fn cluster_bounds(entry: L2Entry, cluster_bits: u32) -> (u64, u64)
     requires bits { IsClusterBits cluster_bits }
     requires valid { l2_fault cluster_bits entry ≡ None }
     ensures { IfSome (allocation (geometry cluster_bits false) entry) (λ clusters.

@@ -14,7 +14,7 @@ pub(crate) const TOGETHER: usize = 16;
 
 /// The entry at an index within the table, without a bounds check in the built program.
 #[inline(always)]
-pub(crate) fn entry_at(table: &L2Table, index: usize) -> L2Entry
+pub fn entry_at(table: &L2Table, index: usize) -> L2Entry
     requires { index < length table.now.numbers }
     ensures number { result ≡ slice_index table.now.numbers index }
     ensures valid { l2_fault table.now.geometry.cluster_bits result ≡ None }

@@ -21,10 +21,11 @@ mod walk;
 mod windows;
 
 pub use counters::{Counters, counted_end, zero_groups};
+pub use counting::{cluster_bounds, refers};
 pub use file_end::{FileEnd, refuse_tables_past_end};
 pub use findings::{Finding, Findings};
 pub use flags::{FlagPlace, Flags, WrongFlag, flagged_cluster};
-pub use groups::row_at;
+pub use groups::{entry_at, row_at};
 pub use image_tables::{ImageTables, OpenTables, open_tables};
 pub use l1_length::{is_l1_short, needed_l1_entries, refuse_short_l1};
 pub use named_tables::{load_l1_table, load_l2_table, load_reftable, named_block, named_cluster};

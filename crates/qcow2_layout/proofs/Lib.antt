@@ -4,5 +4,6 @@ pub mod LayoutLemmas
 pub mod PartsLemmas
 mod PictureExamples
 pub mod PictureLemmas
+pub mod PlacesLemmas
 pub mod ShadesLemmas
 pub mod WindowLemmas

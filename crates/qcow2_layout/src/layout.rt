@@ -167,8 +167,8 @@ impl<'a> Layout<'a> {
     }
 
     // The part and the end of the run that begins at the reader's position, if the consecutive cells of the
-    // window show both.
-    #[inline]
+    // window show both. Most runs are short, so a call for each would cost too much.
+    #[inline(always)]
     fn used_run(&self) -> Option<(Part, u64)>
         ensures run { IfSome result (λ run. (image : Image) → IsLayoutOf image self.now →
             IsWholeRun self.now.header.v2.cluster_bits (parts_for self.now image)

@@ -11,6 +11,9 @@ ghost use Rattle.qcow2_layout.specs.Window.{code_of};
 use qcow2_base::{GuestOffset, HostCluster};
 use qcow2_check::UseKind;
 
+/// The code of compressed data.
+pub(crate) const COMPRESSED_CODE: u64 = 6;
+
 /// The code of guest data of guest cluster 0. The smaller numbers are codes of the other kinds.
 pub(crate) const DATA_CODE: u64 = 7;
 
@@ -26,7 +29,7 @@ pub(crate) fn code_of(kind: UseKind, owner: u64) -> u64
         UseKind::RefcountTable => 3,
         UseKind::RefcountBlock => 4,
         UseKind::L2Table => 5,
-        UseKind::Compressed => 6,
+        UseKind::Compressed => COMPRESSED_CODE,
         UseKind::Data => DATA_CODE + owner,
     }
 }

@@ -1,21 +1,25 @@
 //! The parts of clusters, placed into a window by the walk over an image's references.
 
-ghost use Rattle.std.specs.Prelude.{◌≡◌, ◌+◌, ◌^◌, ◌<◌, ◌≤◌, [], ◌∷◌, IfOk, IsOkUnless, OnOk};
+ghost use Rattle.std.specs.Prelude.{◌≡◌, ◌+◌, ◌^◌, ◌<◌, ◌≤◌, [], ◌∷◌, false, IfOk, IsOkUnless, IsTrue, OnOk, length};
 ghost use Rattle.std.proofs.Common.{arith};
 ghost use Rattle.std.proofs.lemmas.Grind.{fold-append};
 ghost use Rattle.std.proofs.lemmas.List.Elements.{All-append};
+ghost use Rattle.qcow2_base.specs.Format.{most_l1_entries};
 ghost use Rattle.qcow2_base.specs.Storage.{OnImage};
 ghost use Rattle.qcow2_base.specs.declared.fault.Fault.TheVariants.{NoMemory};
 ghost use Rattle.qcow2_metadata.specs.Header.{geometry_of};
 ghost use Rattle.qcow2_metadata.specs.Results.{Reads};
 ghost use Rattle.qcow2_metadata.specs.Table.{IsEntryFault};
 ghost use Rattle.qcow2_check.specs.Uses.{all_load};
-ghost use Rattle.qcow2_check.specs.Walk.{IsOwned, most_guest_clusters, row_list, use_list};
+ghost use Rattle.qcow2_check.specs.Walk.{IsOwned, TakesEntries, most_guest_clusters, row_list, use_list};
 ghost use Rattle.qcow2_layout.specs.Window.{PlacesMore};
 
 use crate::window::{TOGETHER, Window};
-use qcow2_base::{Fault, HostCluster, Storage};
-use qcow2_check::{ImageTables, Use, UseKind, UseSink, walk_uses};
+use qcow2_base::{Fault, GuestCluster, HostCluster, Storage};
+use qcow2_check::{
+    ImageTables, Use, UseKind, UseSink, cluster_bounds, entry_at, refers, walk_uses,
+};
+use qcow2_metadata::{L2Table, Table, TableEntry};
 
 // Gives the clusters of a reference its code, except those that have one already.
 #[inline(always)]
@@ -48,6 +52,36 @@ fn place_each(window: &mut Window, first: u64, guest: u64) -> Result<(), Fault>
     Ok(())
 }
 
+// Places the reference of the entry at an index of an L2 table. Returns false and changes nothing if a group
+// begins with it, if it refers to several clusters, or if `Window::put_guest_if` can't place it.
+#[inline(always)]
+fn place_single(
+    window: &mut Window,
+    table: &L2Table,
+    cluster_bits: u32,
+    l1_index: usize,
+    index: usize,
+) -> bool
+    requires cluster_bits { cluster_bits ≡ table.now.geometry.cluster_bits }
+    requires l1_index { l1_index < most_l1_entries }
+    requires index { index < length table.now.numbers }
+    ensures taken { IsTrue result → TakesEntries PlacesMore table.now.geometry l1_index
+        table.now.numbers index (index + 1) window.old window.new }
+    ensures same { result ≡ false → window.new ≡ window.old }
+{
+    if index % TOGETHER == 0 || table.external_data_file() {
+        return false;
+    }
+    prove!(index < table.entries());
+    let entry = entry_at(table, index);
+    let (first, last) = cluster_bounds(entry, cluster_bits);
+    if first != last {
+        return false;
+    }
+    let guest = GuestCluster::from_l1_l2_indices(l1_index, index, cluster_bits);
+    window.put_guest_if(first, entry.is_compressed(), guest.0, refers(entry))
+}
+
 // A cluster keeps the code of its first reference.
 impl UseSink for Window {
     ghost takes = { PlacesMore };
@@ -65,6 +99,20 @@ impl UseSink for Window {
             return Ok(());
         }
         place_each(self, first.0, guest)
+    }
+
+    fn take_table(&mut self, table: &L2Table, l1_index: usize) -> Result<(), Fault> {
+        // Each is read once, since the compiler can't know that a cell's change leaves it.
+        let (cluster_bits, entries) = (table.cluster_bits(), table.entries());
+        let mut index = 0;
+        while index < entries {
+            if place_single(self, table, cluster_bits, l1_index, index) {
+                index += 1;
+            } else {
+                index += self.take_some(table, l1_index, index)?;
+            }
+        }
+        Ok(())
     }
 
     ghost takes_none = { λ s. Prim.grind arith };

@@ -1,15 +1,16 @@
 //! The parts of some of an image's clusters by their references, in bounded memory.
 
-ghost use Rattle.std.specs.Prelude.{◌≡◌, ℕ, ◌+◌, ◌-◌, ◌^◌, ◌<◌, ◌≤◌, [], ◌∷◌, false, IfOk, IsOkUnless, IsTrue, OnOk, length, replicate};
+ghost use Rattle.std.specs.Prelude.{◌≡◌, ℕ, ◌+◌, ◌-◌, ◌^◌, ◌<◌, ◌≤◌, [], ◌∷◌, false, if◌then◌else◌, IfOk, IsOkUnless, IsTrue, OnOk, length, replicate};
 ghost use Rattle.qcow2_base.specs.Format.{max_file_length};
 ghost use Rattle.qcow2_base.specs.declared.fault.Fault.TheVariants.{NoMemory};
 ghost use Rattle.qcow2_check.specs.Tally.{cell_at, dense_end};
 ghost use Rattle.qcow2_check.specs.Walk.{most_guest_clusters, most_owners, one_use, row_list};
+ghost use Rattle.qcow2_check.specs.declared.uses.UseKind.TheVariants.{Compressed, Data};
 ghost use Rattle.qcow2_layout.specs.Window.{PlacesMore, cell_further};
 
 mod cells;
 
-use crate::parts::{DATA_CODE, code_of};
+use crate::parts::{COMPRESSED_CODE, DATA_CODE, code_of};
 use cells::Cells;
 pub(crate) use cells::TOGETHER;
 use qcow2_base::{Fault, MAX_FILE_LENGTH};
@@ -150,7 +151,7 @@ impl Window {
     /// The end of clusters from one on whose cells are one run: those of guest data are codes of consecutive
     /// guest clusters, others are equal. It is before all clusters with cells in the map, unless `from` has
     /// one. The run ends there if that is a cluster with a consecutive cell.
-    #[inline]
+    #[inline(always)]
     #[tactic(auto, using(crate::proofs::WindowLemmas::run_cells, crate::proofs::WindowLemmas::run_ends))]
     pub(crate) fn run_end(&self, from: u64) -> u64
         requires first { self.now.first ≤ from }
@@ -185,10 +186,41 @@ impl Window {
         if index >= self.dense.len() {
             return self.put_sparse(cluster, kind, owner);
         }
-        if !self.dense.put(index, code_of(kind, owner)) {
+        if !self.dense.put_if(index, code_of(kind, owner), true) {
             return Err(Fault::NoMemory);
         }
         Ok(())
+    }
+
+    /// Gives a cluster the code of a reference by guest data, which may be compressed, as `put` does if
+    /// `is_used`. Returns false and changes nothing if the cluster is in the window but has no dense cell, or
+    /// a narrow one can't hold the code. Branches on neither `is_used` nor `is_compressed`.
+    #[inline(always)]
+    pub(crate) fn put_guest_if(
+        &mut self,
+        cluster: u64,
+        is_compressed: bool,
+        guest: u64,
+        is_used: bool,
+    ) -> bool
+        requires { guest < most_guest_clusters }
+        ensures placed { IsTrue result → IsTrue is_used → PlacesMore (one_use
+            (if is_compressed then Compressed else Data) (record { 0 = cluster }) 1 guest ∷ [])
+            self.old self.new }
+        ensures unused { is_used ≡ false → self.new ≡ self.old }
+        ensures same { result ≡ false → self.new ≡ self.old }
+    {
+        let code = if is_compressed {
+            COMPRESSED_CODE
+        } else {
+            DATA_CODE + guest
+        };
+        // Without a reference this may be any cell, which stays as it is.
+        let index = cluster.wrapping_sub(self.first);
+        self.dense.put_if(index as usize, code, is_used)
+            || !is_used
+            || cluster < self.first
+            || cluster >= self.end
     }
 
     /// Gives `TOGETHER` clusters from `first` on the codes of guest data, from guest cluster `guest` on, as

@@ -74,12 +74,14 @@ fn goes_on(cells: &[u32], index: usize) -> bool
         return false;
     }
     let cell = narrow_further(before, 1);
-    // Usually the last cell alone shows whether they do.
-    cells[index + 15] == narrow_further(cell, 15) && are_further(cells, index, cell)
+    // Usually the first and the last cell show whether they do.
+    cells[index] == cell
+        && cells[index + 15] == narrow_further(cell, 15)
+        && are_further(cells, index, cell)
 }
 
 // The end of whole groups after an index whose cells go on from the one there.
-#[inline]
+#[inline(always)]
 fn groups_end(cells: &[u32], index: usize) -> usize
     requires { index < length cells.now }
     ensures within { (index < result) × (result ≤ length cells.now) }
@@ -131,27 +133,32 @@ impl Cells {
         }
     }
 
-    // Gives a cell a code if it is 0. Returns false and changes nothing if the code doesn't fit.
+    // Gives a cell a code if it is 0 and `is_used`. Returns false and changes nothing if the index is past
+    // the end or the code doesn't fit. Branches on neither the cell nor `is_used`.
     #[inline(always)]
-    pub(super) fn put(&mut self, index: usize, code: u64) -> bool
-        requires { index < length (window_cells self.old) }
-        ensures placed { IsTrue result → window_cells self.new ≡ slice_set (window_cells self.old) index
+    pub(super) fn put_if(&mut self, index: usize, code: u64, is_used: bool) -> bool
+        ensures placed { IsTrue result → IsTrue is_used → (index < length (window_cells self.old))
+            × (window_cells self.new ≡ slice_set (window_cells self.old) index
             (if slice_index (window_cells self.old) index == 0 then code
-            else slice_index (window_cells self.old) index) }
+            else slice_index (window_cells self.old) index)) }
+        ensures unused { is_used ≡ false → window_cells self.new ≡ window_cells self.old }
         ensures same { result ≡ false → window_cells self.new ≡ window_cells self.old }
         ensures count { length (window_cells self.new) ≡ length (window_cells self.old) }
     {
+        if index >= self.len() {
+            return false;
+        }
         match self {
             Cells::Narrow(list) => {
                 let Ok(narrow) = u32::try_from(code) else {
                     return false;
                 };
                 let cell = list[index];
-                list[index] = if cell == 0 { narrow } else { cell };
+                list[index] = if (cell == 0) & is_used { narrow } else { cell };
             }
             Cells::Wide(list) => {
                 let cell = list[index];
-                list[index] = if cell == 0 { code } else { cell };
+                list[index] = if (cell == 0) & is_used { code } else { cell };
             }
         }
         true
@@ -181,7 +188,7 @@ impl Cells {
     }
 
     // The end of whole groups after an index whose cells are narrow and go on from the one there.
-    #[inline]
+    #[inline(always)]
     fn groups_end(&self, index: usize) -> usize
         requires { index < length (window_cells self.now) }
         ensures within { (index < result) × (result ≤ length (window_cells self.now)) }
@@ -195,7 +202,7 @@ impl Cells {
     }
 
     // The end of the run that the cell at an index begins. A cell there doesn't go on from it.
-    #[inline]
+    #[inline(always)]
     pub(super) fn run_end(&self, index: usize) -> usize
         requires { index < length (window_cells self.now) }
         ensures within { (index < result) × (result ≤ length (window_cells self.now)) }
