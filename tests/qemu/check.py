@@ -120,11 +120,17 @@ class Check:
                 self.totals[kind] += len(clusters)
 
     def flags(self):
-        """The copied flags of all entries that refer to a cluster: those of L1 entries, each before its L2 table's."""
+        """The copied flags of all entries that refer to a cluster: those of L1 entries, each before its L2 table's.
+
+        The flags of a table follow the first entry that names it.
+        """
+        named = set()
         for l1_entry in self.image.l1_table:
             if l1_entry.length:
                 yield Flag(l1_entry, self.header.l1_table_offset, f"l1 {l1_entry.index}", True)
-                yield from self.flags_of_table(l1_entry)
+                if l1_entry.offset not in named:
+                    yield from self.flags_of_table(l1_entry)
+                named.add(l1_entry.offset)
 
     def flags_of_table(self, l1_entry):
         """The copied flags of an L2 table, whose compressed entries have none."""
@@ -134,13 +140,26 @@ class Check:
                 place = f"{guest * self.header.cluster_size:#x}"
                 yield Flag(entry, l1_entry.offset, place, not self.header.is_external)
 
+    def is_wrong(self, flag):
+        """Whether a copied flag contradicts the refcount of the cluster."""
+        is_sole = not flag.is_counted or self.image.refcount(flag.entry.offset // self.header.cluster_size) == 1
+        return bool(flag.entry.bits & COPIED) != is_sole
+
+    def has_wrong_flags_again(self):
+        """Whether an L2 table with a wrong flag is named by an L1 entry after the first one."""
+        named = set()
+        for l1_entry in self.image.l1_table:
+            if l1_entry.length and l1_entry.offset in named and any(map(self.is_wrong, self.flags_of_table(l1_entry))):
+                return True
+            named.add(l1_entry.offset)
+        return False
+
     def add_flag_line(self, flag):
         """Adds the line of a copied flag, if it is wrong."""
         cluster = flag.entry.offset // self.header.cluster_size
         refcount = self.image.refcount(cluster) if flag.is_counted else "none"
-        is_set = flag.entry.bits & COPIED != 0
-        if is_set != (refcount in (1, "none")):
-            kind = "false" if is_set else "late"
+        if self.is_wrong(flag):
+            kind = "false" if flag.entry.bits & COPIED else "late"
             self.text += f"{kind} {flag.place} {cluster} {refcount}\n"
             self.totals[kind] += 1
 
@@ -208,6 +227,7 @@ class Check:
             "past the greatest counter": max(references.values()) > header.greatest_refcount,
             "uses of a block": any(references[offset // size] > 1 for offset in image.refcount_blocks.values()),
             "only copied": any(not entry.length for entry in image.l1_table),
+            "flags of a table named again": self.has_wrong_flags_again(),
             "compressed data outside": header.is_external and any(compressed),
             "zeros of the first cluster": header.is_external and any(entry.bits == COPIED | ZERO for entry in entries),
         }

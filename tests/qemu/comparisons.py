@@ -28,6 +28,7 @@ COUNTED_OTHERWISE = {
     "past the greatest counter": {"corruptions"},
     "uses of a block": {"corruptions"},
     "only copied": {"image-end-offset", "corruptions", "leaks", *ENTRY_COUNTS},
+    "flags of a table named again": {"corruptions"},
     "compressed data outside": {"corruptions", *ENTRY_COUNTS},
     "zeros of the first cluster": {*ENTRY_COUNTS},
 }

@@ -1,7 +1,7 @@
-use Rattle.std.proofs.Common.{◌≡◌, ◌⊎◌, ℕ, zero, suc, Bool, true, false, not, ◌&&◌, ◌==◌, if◌then◌else◌, ◌+◌, ◌<◌, ◌≤◌, List, [], ◌∷◌, ◌++◌, flat_map, length, length-append, map, slice_index, slice_set, option_map, option_to_list, unwrap_or, div-le_self, Option, None, Some, ap, refl, subst, sym, ◌∙◌, inl, inr, arith}
+use Rattle.std.proofs.Common.{◌≡◌, ◌⊎◌, ℕ, zero, suc, Bool, true, false, not, ◌&&◌, ◌==◌, if◌then◌else◌, ◌+◌, ◌<◌, ◌≤◌, List, [], ◌∷◌, ◌++◌, flat_map, length, length-append, map, slice_index, slice_set, option_map, option_to_list, add-zero, unwrap_or, div-le_self, Option, None, Some, ap, refl, subst, sym, ◌∙◌, inl, inr, arith}
 use Rattle.std.proofs.lemmas.Bool.{cases_lt}
 use Rattle.std.proofs.lemmas.Bool.Decides.{nat_tests}
-use Rattle.std.proofs.lemmas.List.{get_or-append-add, get_or_append_left}
+use Rattle.std.proofs.lemmas.List.{get_or-append-add, get_or-map, get_or_append_left, length-map}
 use Rattle.std.proofs.lemmas.List.Elements.{All-append, All-cons, All-head, All-nil}
 use Rattle.std.proofs.lemmas.List.Sums.{sum_by-append, sum_by-cons}
 use Rattle.std.proofs.lemmas.Nat.{pow_pos}
@@ -14,7 +14,7 @@ use Rattle.qcow2_base.specs.declared.types.HostCluster.{HostCluster}
 use Rattle.qcow2_edits.specs.Edits.{table_edit}
 use Rattle.qcow2_edits.specs.declared.edits.Edit.{Edit}
 use Rattle.qcow2_metadata.proofs.L2GuardsLemmas.{data_entry-allocation}
-use Rattle.qcow2_metadata.specs.Entries.{is_copied}
+use Rattle.qcow2_metadata.specs.Entries.{is_copied, offset_field}
 use Rattle.qcow2_metadata.specs.Entries.L2Entry.{allocation, has_host_cluster, with_zero_flag}
 use Rattle.qcow2_metadata.specs.Header.{Geometry, HeaderRecord, geometry_of}
 use Rattle.qcow2_metadata.specs.Placed.{numbers_at}
@@ -24,8 +24,10 @@ use Rattle.qcow2_metadata.specs.declared.entries.ClustersToFreeEntry.{ClustersTo
 use Rattle.qcow2_summary.proofs.ApartLemmas.{named-below, named-used}
 use Rattle.qcow2_check.proofs.FindingsLemmas.{all-cons, uses_by_kind}
 use Rattle.qcow2_check.specs.Counters.{counter_of}
-use Rattle.qcow2_check.specs.Flags.{flagged_cluster, image_flags, l1_flag, l1_flags, l2_flag, l2_flags, table_flags, wrong_flag}
-use Rattle.qcow2_check.specs.NamedTables.{named_cluster}
+use Rattle.qcow2_check.specs.Flags.{first_flags, flagged_cluster, image_flags, l1_flag, l1_flags, l2_flag, l2_flags, l2_flags_from, table_flags, wrong_flag}
+use Rattle.qcow2_check.specs.NamedTables.{cluster_unless_zero, named_cluster}
+use Rattle.qcow2_check.proofs.RepeatsLemmas.{first_place}
+use Rattle.qcow2_check.specs.Repeats.{is_again, table_names}
 use Rattle.qcow2_check.specs.Tally.{ClusterUse, used_clusters}
 use Rattle.qcow2_check.specs.Uses.{ImageTables, block_uses, entry_uses, header_uses, image_uses, l1_entry_uses, table_uses, uses_of}
 use Rattle.qcow2_check.specs.declared.flags.FlagPlace.{FlagPlace}
@@ -187,20 +189,44 @@ true-late place cluster n false flag sole is = by_test (n == 1) is
     by_test true is = ap (λ found. (unwrap_or found told).is_set) (sym is)
     by_test false is = absurd (none-some flag is)
 
--- of wrong flags that all are late, those of each L1 entry and its table are
-l1-each : (header : HeaderRecord) (reftable : List ℕ) (image : Image) (index : ℕ) (vs : List ℕ) (k : ℕ) → k < length vs
-    → All IsLate (l1_flags header reftable image index vs) → (at : ℕ) × All IsLate (option_to_list (l1_flag header reftable image at (slice_index vs k)))
-    × All IsLate (table_flags header reftable image at (slice_index vs k))
-l1-each header reftable image index [] k below late = absurd (omega (arith, below))
-l1-each header reftable image index (v ∷ vs) zero below late =
-    let own = option_to_list (l1_flag header reftable image index v) in
-    let table = table_flags header reftable image index v in
-    let first = all-left IsLate (own ++ table) (l1_flags header reftable image (index + 1) vs) late in
-    (index, all-left IsLate own table first, all-right IsLate own table first)
-l1-each header reftable image index (v ∷ vs) (suc k) below late =
-    l1-each header reftable image (index + 1) vs k (omega (arith, below))
-    (all-right IsLate (option_to_list (l1_flag header reftable image index v) ++ table_flags header reftable image index v)
-    (l1_flags header reftable image (index + 1) vs) late)
+-- of wrong flags that all are late, those of each L1 entry are, and of its table where it comes first
+l1-each : (tables : ImageTables) (image : Image) (index : ℕ) (vs : List ℕ) (k : ℕ) → k < length vs → All IsLate (l1_flags tables image index vs)
+    → All IsLate (option_to_list (l1_flag tables.header tables.reftable image (index + k) (slice_index vs k)))
+    × All IsLate (first_flags tables image (index + k) (slice_index vs k))
+l1-each tables image index [] k below late = absurd (omega (arith, below))
+l1-each tables image index (v ∷ vs) zero below late =
+    let own = option_to_list (l1_flag tables.header tables.reftable image index v) in
+    let entries = first_flags tables image index v in
+    let first = all-left IsLate (own ++ entries) (l1_flags tables image (index + 1) vs) late in
+    subst (λ n. All IsLate (option_to_list (l1_flag tables.header tables.reftable image n v)) × All IsLate (first_flags tables image n v)) (sym (add-zero index))
+    (all-left IsLate own entries first, all-right IsLate own entries first)
+l1-each tables image index (v ∷ vs) (suc k) below late =
+    let place : index + 1 + k ≡ index + suc k = omega arith in
+    subst (λ n. All IsLate (option_to_list (l1_flag tables.header tables.reftable image n (slice_index vs k))) × All IsLate (first_flags tables image n (slice_index vs k))) place
+    (l1-each tables image (index + 1) vs k (omega (arith, below))
+    (all-right IsLate (option_to_list (l1_flag tables.header tables.reftable image index v) ++ first_flags tables image index v)
+    (l1_flags tables image (index + 1) vs) late))
+
+-- so those of each table are
+table-each : (tables : ImageTables) (image : Image) (i : ℕ) (table : HostCluster) → i < length tables.l1
+    → named_cluster tables.header.v2.cluster_bits (slice_index tables.l1 i) ≡ Some table → All IsLate (image_flags tables image)
+    → (at : ℕ) × All IsLate (l2_flags_from (geometry_of tables.header) (counter_of tables.header tables.reftable image) at
+    (numbers_at (l2_layout (geometry_of tables.header)) table image) 0)
+table-each tables image i table below named late =
+    let names = table_names tables.l1 in
+    let same_length = length-map tables.l1 offset_field in
+    let first = first_place names i (omega (arith, below, same_length)) in
+    let inside : first.0 < length tables.l1 = omega (arith, first.1, same_length) in
+    let offset : offset_field (slice_index tables.l1 first.0) ≡ offset_field (slice_index tables.l1 i) =
+    sym (get_or-map offset_field tables.l1 first.0 0 0 inside) ∙ first.2 ∙ get_or-map offset_field tables.l1 i 0 0 below in
+    let there : named_cluster tables.header.v2.cluster_bits (slice_index tables.l1 first.0) ≡ Some table =
+    ap (λ n. cluster_unless_zero tables.header.v2.cluster_bits n) offset ∙ named in
+    let each = (l1-each tables image 0 tables.l1 first.0 inside late).1 in
+    let place : 0 + first.0 ≡ first.0 = omega arith in
+    let entries : All IsLate (table_flags tables.header tables.reftable image first.0 (slice_index tables.l1 first.0)) =
+    subst (λ again. All IsLate (if again then [] else table_flags tables.header tables.reftable image first.0 (slice_index tables.l1 first.0))) first.3
+    (subst (λ n. All IsLate (first_flags tables image n (slice_index tables.l1 first.0))) place each) in
+    (first.0, rw (there, table_flags) at entries)
 
 -- and that of each L2 entry
 l2-each : (header : HeaderRecord) (reftable : List ℕ) (image : Image) (guest : ℕ) (vs : List ℕ) (k : ℕ) → k < length vs
@@ -244,15 +270,14 @@ are-true tables image inside late = record {
     of_l1 : (k : ℕ) (cluster : HostCluster) → named_cluster tables.header.v2.cluster_bits (slice_index tables.l1 k) ≡ Some cluster
         → is_copied (slice_index tables.l1 k) ≡ true → k < length tables.l1 → counter_of tables.header tables.reftable image cluster.0 ≡ 1
     of_l1 k cluster names copied below =
-        let each = l1-each tables.header tables.reftable image 0 tables.l1 k below late in
-        late-true _ cluster (counter_of tables.header tables.reftable image cluster.0) (rw (names, copied, l1_flag) at each.1)
+        let each = l1-each tables image 0 tables.l1 k below late in
+        late-true _ cluster (counter_of tables.header tables.reftable image cluster.0) (rw (names, copied, l1_flag) at each.0)
 
     of_l2 : (i : ℕ) (table : HostCluster) (k : ℕ) (cluster : HostCluster) → named_cluster tables.header.v2.cluster_bits (slice_index tables.l1 i) ≡ Some table
         → SaysSole (geometry_of tables.header) (slice_index (numbers table) k) cluster → i < length tables.l1 → k < length (numbers table)
         → counter_of tables.header tables.reftable image cluster.0 ≡ 1
     of_l2 i table k cluster named says below there =
-        let each = l1-each tables.header tables.reftable image 0 tables.l1 i below late in
-        let list = rw (named, table_flags) at each.2 in
+        let list = (table-each tables image i table below named late).1 in
         let one = l2-each tables.header tables.reftable image _ (numbers table) k there list in
         late-true _ cluster (counter_of tables.header tables.reftable image cluster.0) (rw (says.names, inside, says.copied, l2_flag) at one.1)
 
@@ -277,24 +302,33 @@ table-late header reftable image index v None names each = rw (names, table_flag
 table-late header reftable image index v (Some table) names each = rw (names, table_flags)
     (l2-late header reftable image _ (numbers_at (l2_layout (geometry_of header)) table image) (λ k at flag. each table k at flag refl))
 
-l1-late : (header : HeaderRecord) (reftable : List ℕ) (image : Image) (index : ℕ) (vs : List ℕ)
-    → ((k at : ℕ) (flag : WrongFlag) → l1_flag header reftable image at (slice_index vs k) ≡ Some flag → IsLate flag)
-    → ((i : ℕ) (table : HostCluster) (k at : ℕ) (flag : WrongFlag) → named_cluster header.v2.cluster_bits (slice_index vs i) ≡ Some table
-    → l2_flag (geometry_of header) (counter_of header reftable image) at (slice_index (numbers_at (l2_layout (geometry_of header)) table image) k) ≡ Some flag → IsLate flag)
-    → All IsLate (l1_flags header reftable image index vs)
-l1-late header reftable image index [] one other = All-nil IsLate
-l1-late header reftable image index (v ∷ vs) one other =
-    let own = option_to_list (l1_flag header reftable image index v) in
-    let table = table_flags header reftable image index v in
-    All-append IsLate (own ++ table) (l1_flags header reftable image (index + 1) vs)
-    (All-append IsLate own table (found-late (l1_flag header reftable image index v) (one 0 index))
-    (table-late header reftable image index v (named_cluster header.v2.cluster_bits v) refl (λ table k at flag names. other 0 table k at flag names)))
-    (l1-late header reftable image (index + 1) vs (λ k. one (suc k)) (λ i. other (suc i)))
+first-late : (tables : ImageTables) (image : Image) (index v : ℕ) → All IsLate (table_flags tables.header tables.reftable image index v)
+    → All IsLate (first_flags tables image index v)
+first-late tables image index v late = elim (is_again (table_names tables.l1) index)
+    as (λ again. All IsLate (if again then [] else table_flags tables.header tables.reftable image index v)) [
+      | true ↦ All-nil IsLate
+      | false ↦ late
+    ]
+
+l1-late : (tables : ImageTables) (image : Image) (index : ℕ) (vs : List ℕ)
+    → ((k at : ℕ) (flag : WrongFlag) → l1_flag tables.header tables.reftable image at (slice_index vs k) ≡ Some flag → IsLate flag)
+    → ((i : ℕ) (table : HostCluster) (k at : ℕ) (flag : WrongFlag) → named_cluster tables.header.v2.cluster_bits (slice_index vs i) ≡ Some table
+    → l2_flag (geometry_of tables.header) (counter_of tables.header tables.reftable image) at (slice_index (numbers_at (l2_layout (geometry_of tables.header)) table image) k) ≡ Some flag → IsLate flag)
+    → All IsLate (l1_flags tables image index vs)
+l1-late tables image index [] one other = All-nil IsLate
+l1-late tables image index (v ∷ vs) one other =
+    let header = tables.header in
+    let own = option_to_list (l1_flag header tables.reftable image index v) in
+    let entries = first_flags tables image index v in
+    All-append IsLate (own ++ entries) (l1_flags tables image (index + 1) vs)
+    (All-append IsLate own entries (found-late (l1_flag header tables.reftable image index v) (one 0 index))
+    (first-late tables image index v (table-late header tables.reftable image index v (named_cluster header.v2.cluster_bits v) refl (λ table k at flag names. other 0 table k at flag names))))
+    (l1-late tables image (index + 1) vs (λ k. one (suc k)) (λ i. other (suc i)))
 
 -- and where all are true, none is false
 are-late : (tables : ImageTables) (image : Image) → (geometry_of tables.header).external_data_file ≡ false → AreTrue tables image
     → All IsLate (image_flags tables image)
-are-late tables image inside true_ones = l1-late tables.header tables.reftable image 0 tables.l1 of_l1 of_l2
+are-late tables image inside true_ones = l1-late tables image 0 tables.l1 of_l1 of_l2
   where
     g : Geometry
     g = geometry_of tables.header

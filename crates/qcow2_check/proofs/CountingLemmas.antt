@@ -1,16 +1,16 @@
-use Rattle.std.proofs.Common.{◌≡◌, ℕ, ◌+◌, Bool, true, false, List, [], ◌∷◌, ◌++◌, flat_map, map, Some, None, option_map, option_to_list, OnOk, Result, Ok, Err, refl, subst, sym, ◌∙◌, ap, arith}
+use Rattle.std.proofs.Common.{◌≡◌, ℕ, ◌+◌, Bool, true, false, List, [], ◌∷◌, ◌++◌, flat_map, map, Some, None, option_map, option_to_list, OnOk, Result, Ok, Err, refl, sym, ◌∙◌, ap, arith}
 use Rattle.std.specs.List.{fold}
 use Rattle.std.proofs.lemmas.Bool.Decides.{nat_tests}
 use Rattle.std.proofs.lemmas.Grind.{fold-append}
 use Rattle.std.proofs.lemmas.List.{map-append}
-use Rattle.qcow2_base.specs.Storage.{Image, OnImage, StorageState}
+use Rattle.qcow2_base.specs.Storage.{Image, StorageState}
 use Rattle.qcow2_base.specs.declared.fault.Fault.{Fault}
 use Rattle.qcow2_metadata.specs.Entries.{is_among}
 use Rattle.qcow2_metadata.specs.Header.{Geometry, geometry_of}
 use Rattle.qcow2_metadata.specs.Placed.{numbers_at}
 use Rattle.qcow2_metadata.specs.Table.{l2_layout}
 use Rattle.qcow2_check.specs.NamedTables.{named_cluster}
-use Rattle.qcow2_check.specs.Tally.{ClusterUse, CountsMore, TallyState, cell_at, cell_with, used_clusters, with_use}
+use Rattle.qcow2_check.specs.Tally.{ClusterUse, TallyState, cell_with, used_clusters, with_use}
 use Rattle.qcow2_check.specs.Uses.{ImageTables, block_uses, entry_uses, header_uses, image_uses, l1_entry_uses, uses_of}
 use Rattle.qcow2_check.proofs.FindingsLemmas.{cell_counts}
 use Rattle.qcow2_check.specs.declared.tally.TallyKind.{TallyKind}
@@ -53,7 +53,7 @@ counted_table : (cb index v : ℕ) → map counted_use (table_list cb index v) �
 counted_table cb index v = grind arith
 
 -- what the entries of an L2 table refer to that an L1 entry names
-counted_l1 : (g : Geometry) (image : Image) (index v : ℕ) → map counted_use (l1_list g image index v) ≡ guest_uses g image v
+pub counted_l1 : (g : Geometry) (image : Image) (index v : ℕ) → map counted_use (l1_list g image index v) ≡ guest_uses g image v
 counted_l1 g image index v = grind (arith, counted_entries)
 
 -- the L2 table of an L1 entry first, and then its entries
@@ -85,7 +85,7 @@ counted_uses tables image =
     ∙ ap (λ us. counted_tables tables ++ us) (counted_list (l1_list g image) (guest_uses g image) (counted_l1 g image) 0 tables.l1)
 
 -- two uses, in either order
-kinds_commute : (first second : TallyKind) (cell : ℕ) → with_use first (with_use second cell) ≡ with_use second (with_use first cell)
+pub kinds_commute : (first second : TallyKind) (cell : ℕ) → with_use first (with_use second cell) ≡ with_use second (with_use first cell)
 kinds_commute Fixed Fixed cell = refl
 kinds_commute Fixed L2Table cell = grind (arith, nat_tests)
 kinds_commute Fixed Guest cell = grind (arith, nat_tests)
@@ -158,25 +158,11 @@ same_counts c cell tables image =
     ∙ sym (fold-append (cell_with c) cell own (blocks ++ flat_map (l1_entry_uses g image) tables.l1)
     ∙ fold-append (cell_with c) (f cell own) blocks (flat_map (l1_entry_uses g image) tables.l1))
 
--- what a tally that took them counts
-pub counted_all : (answer : Result (Unit {0}) Fault) (state : StorageState) (tables : ImageTables) (old new : TallyState)
-    → OnOk answer (Took (λ uses. CountsMore (map counted_use uses)) state (use_list tables) old new)
-    → OnOk answer (OnImage state (λ bytes. CountsMore (image_uses tables bytes) old new))
-counted_all (Ok done) state tables old new took = λ told.
-    let all : CountsMore (map counted_use (use_list tables state.byte_at)) old new =
-    subst (λ uses. CountsMore (map counted_use uses) old new) (took.known told) took.taken in
-    record {
-      first = all.first;
-      end = all.end;
-      cells = λ c from before. all.cells c from before ∙ same_counts c (cell_at old c) tables state.byte_at;
-    }
-counted_all (Err fault) state tables old new took = tt
-
-pub first_kept : (answer : Result (Unit {0}) Fault) (state : StorageState) (tables : ImageTables) (old new : TallyState)
-    → OnOk answer (Took (λ uses. CountsMore (map counted_use uses)) state (use_list tables) old new)
-    → OnOk answer (new.first ≡ old.first)
-first_kept (Ok done) state tables old new took = took.taken.first
-first_kept (Err fault) state tables old new took = tt
+-- the cells that it counts in begin where they did
+pub first_kept : (answer : Result (Unit {0}) Fault) (state : StorageState) (meaning : Image → List Use) (old new : TallyState)
+    → OnOk answer (Took CountsUses state meaning old new) → OnOk answer (new.first ≡ old.first)
+first_kept (Ok done) state meaning old new took = took.taken.first
+first_kept (Err fault) state meaning old new took = tt
 
 -- nor does a number of uses
 pub walked_uses : (tables : ImageTables) (image : Image) (c : ℕ) → uses_of (map counted_use (use_list tables image)) c ≡ uses_of (image_uses tables image) c

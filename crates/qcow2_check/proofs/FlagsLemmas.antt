@@ -1,7 +1,8 @@
-use Rattle.std.proofs.lemmas.Bool.{cases_lt}
+use Rattle.std.proofs.lemmas.Bool.{cases_eq, cases_lt, false_from_ne_true}
+use Rattle.std.proofs.lemmas.List.{append_assoc, get_or-map, length-map}
 use Rattle.std.proofs.lemmas.Bool.Decides.{nat_tests}
 use Rattle.std.specs.Prelude.{◌&&◌, ◌==◌}
-use Rattle.std.proofs.Common.{◌≡◌, ℕ, zero, suc, Bool, true, false, None, ap, subst, drop, add-zero, drop-cons, refl, ◌∙◌, ◌++◌, option_to_list, ◌+◌, ◌-◌, ◌*◌, ◌/◌, ◌^◌, ◌<◌, ◌≤◌, List, [], ◌∷◌, length, slice_index, Some, Ok, Err, IsTrue, sym, inl, inr, arith}
+use Rattle.std.proofs.Common.{◌≡◌, ℕ, zero, suc, if◌then◌else◌, Bool, true, false, None, ap, subst, drop, add-zero, drop-cons, refl, ◌∙◌, ◌++◌, option_to_list, ◌+◌, ◌-◌, ◌*◌, ◌/◌, ◌^◌, ◌<◌, ◌≤◌, List, [], ◌∷◌, length, slice_index, Some, Ok, Err, IsTrue, sym, inl, inr, arith}
 use Rattle.std.proofs.Math.Pow.{pow_mono}
 use Rattle.std.proofs.lemmas.Nat.{mul-add-lt, mul-lt}
 use Rattle.qcow2_base.specs.Storage.{Image, OnImage, StorageState}
@@ -13,9 +14,11 @@ use Rattle.qcow2_metadata.specs.Results.{Answers}
 use Rattle.qcow2_metadata.specs.Table.{IsContentFault, TableState, l2_entries, l2_layout, loaded_l2_table}
 use Rattle.qcow2_check.specs.Findings.{IsLaterFault}
 use Rattle.qcow2_check.specs.Counters.{CountersState, counter_of}
-use Rattle.qcow2_check.specs.Flags.{AreMarksOf, FlagsState, HasNoFlag, IsClean, IsFlagsOf, flag_tables, flags_left, MarksState, flagged_cluster, l1_flag, l1_flags, table_flags, l2_flag, l2_flags, l2_flags_from}
+use Rattle.qcow2_check.specs.Flags.{AreMarksOf, FlagsState, HasNoFlag, IsClean, IsFlagsOf, flag_tables, flags_left, MarksState, first_flags, flagged_cluster, l1_flag, l1_flags, table_flags, l2_flag, l2_flags, l2_flags_from, wrong_flag}
+use Rattle.qcow2_check.specs.declared.flags.FlagPlace.TheVariants.{L1Index}
 use Rattle.qcow2_metadata.specs.Entries.{is_copied, offset_field}
 use Rattle.qcow2_check.specs.NamedTables.{named_cluster}
+use Rattle.qcow2_check.specs.Repeats.{AreTimesOf, is_again, table_names, times_at}
 use Rattle.qcow2_check.specs.Soles.{AreSoles, IsMarked}
 use Rattle.qcow2_check.specs.Uses.{ImageTables, all_load, l1_entry_loads}
 
@@ -150,16 +153,70 @@ marks_more tables image marks are clean = record {
   ];
 }
 
+-- a table without wrong flags has none, whatever L1 entry names it
+none_first : (tables : ImageTables) (image : Image) (index v : ℕ) → table_flags tables.header tables.reftable image index v ≡ []
+    → first_flags tables image index v ≡ []
+none_first tables image index v none = elim (is_again (table_names tables.l1) index) as (λ again. (if again then [] else table_flags tables.header tables.reftable image index v) ≡ []) [
+  | true ↦ refl
+  | false ↦ none
+]
+
 -- the flags that are left at a clean entry are those from the next one on
 pub clean_leaves : (tables : ImageTables) (image : Image) (index : ℕ) → index < length tables.l1 → IsClean tables image index
-    → l1_flags tables.header tables.reftable image index (drop index tables.l1)
-    ≡ l1_flags tables.header tables.reftable image (index + 1) (drop (index + 1) tables.l1)
+    → l1_flags tables image index (drop index tables.l1) ≡ l1_flags tables image (index + 1) (drop (index + 1) tables.l1)
 clean_leaves tables image index below clean =
+    let v = slice_index tables.l1 index in
     let one_more : suc index ≡ index + 1 = omega arith in
-    ap (λ vs. l1_flags tables.header tables.reftable image index vs) (drop-cons tables.l1 index 0 below)
-    ∙ rw (clean.0, clean.1, ← one_more) refl
+    let rest = l1_flags tables image (index + 1) (drop (suc index) tables.l1) in
+    ap (λ vs. l1_flags tables image index vs) (drop-cons tables.l1 index 0 below)
+    ∙ ap (λ flag. option_to_list flag ++ first_flags tables image index v ++ rest) clean.0
+    ∙ ap (λ flags. flags ++ rest) (none_first tables image index v clean.1)
+    ∙ ap (λ n. l1_flags tables image (index + 1) (drop n tables.l1)) one_more
 
 pub clean_step : (reader : FlagsState) (image : Image) → IsFlagsOf image reader → reader.table ≡ None → reader.index < length reader.l1
     → reader.index < reader.marks.clean → flags_left reader image ≡ flags_left (record reader { index = reader.index + 1 }) image
 clean_step reader image is none below clean =
     rw (none, flags_left) (clean_leaves (flag_tables reader) image reader.index below (is.marks.clean reader.index clean))
+
+-- a table counts where no entry before names it too
+not_again : (tables : ImageTables) (times : List ℕ) (index : ℕ) (cluster : HostCluster) → index < length tables.l1
+    → named_cluster tables.header.v2.cluster_bits (slice_index tables.l1 index) ≡ Some cluster → AreTimesOf (table_names tables.l1) times
+    → 0 < times_at times index → is_again (table_names tables.l1) index ≡ false
+not_again tables times index cluster below named are counts =
+    let inside : index < length (table_names tables.l1) = omega (arith, below, length-map tables.l1 offset_field) in
+    let name : slice_index (table_names tables.l1) index ≡ offset_field (slice_index tables.l1 index) = get_or-map offset_field tables.l1 index 0 0 below in
+    let some : 0 < slice_index (table_names tables.l1) index = elim (cases_eq (offset_field (slice_index tables.l1 index)) 0) [
+      | inl none ↦ absurd (grind (arith, nat_tests, named, none))
+      | inr other ↦ omega (arith, name, other)
+    ] in
+    false_from_ne_true (is_again (table_names tables.l1) index) (λ again. omega (arith, counts, (are.again index inside some).1 again))
+
+-- the flags that are left at an entry whose table counts: its own, those of the table, and those from the next entry on
+pub table_leaves : (tables : ImageTables) (image : Image) (times : List ℕ) (index : ℕ) (cluster : HostCluster) → index < length tables.l1
+    → named_cluster tables.header.v2.cluster_bits (slice_index tables.l1 index) ≡ Some cluster → AreTimesOf (table_names tables.l1) times
+    → 0 < times_at times index
+    → l1_flags tables image index (drop index tables.l1)
+    ≡ option_to_list (wrong_flag (L1Index index) cluster (Some (counter_of tables.header tables.reftable image cluster.0)) (is_copied (slice_index tables.l1 index)))
+    ++ (l2_flags_from (geometry_of tables.header) (counter_of tables.header tables.reftable image) index
+    (numbers_at (l2_layout (geometry_of tables.header)) cluster image) 0
+    ++ l1_flags tables image (index + 1) (drop (index + 1) tables.l1))
+table_leaves tables image times index cluster below named are counts =
+    let v = slice_index tables.l1 index in
+    let one_more : suc index ≡ index + 1 = omega arith in
+    let rest = l1_flags tables image (index + 1) (drop (suc index) tables.l1) in
+    let own : l1_flag tables.header tables.reftable image index v
+    ≡ wrong_flag (L1Index index) cluster (Some (counter_of tables.header tables.reftable image cluster.0)) (is_copied v) = rw (named, l1_flag) refl in
+    let table : table_flags tables.header tables.reftable image index v
+    ≡ l2_flags_from (geometry_of tables.header) (counter_of tables.header tables.reftable image) index (numbers_at (l2_layout (geometry_of tables.header)) cluster image) 0 =
+    rw (named, table_flags) refl in
+    let first : first_flags tables image index v ≡ table_flags tables.header tables.reftable image index v =
+    ap (λ again. if again then [] else table_flags tables.header tables.reftable image index v) (not_again tables times index cluster below named are counts) in
+    ap (λ vs. l1_flags tables image index vs) (drop-cons tables.l1 index 0 below)
+    ∙ ap (λ flag. option_to_list flag ++ first_flags tables image index v ++ rest) own
+    ∙ ap (λ flags. option_to_list (wrong_flag (L1Index index) cluster (Some (counter_of tables.header tables.reftable image cluster.0)) (is_copied v)) ++ flags ++ rest) (first ∙ table)
+    ∙ ap (λ n. option_to_list (wrong_flag (L1Index index) cluster (Some (counter_of tables.header tables.reftable image cluster.0)) (is_copied v))
+    ++ l2_flags_from (geometry_of tables.header) (counter_of tables.header tables.reftable image) index (numbers_at (l2_layout (geometry_of tables.header)) cluster image) 0
+    ++ l1_flags tables image (index + 1) (drop n tables.l1)) one_more
+    ∙ append_assoc (option_to_list (wrong_flag (L1Index index) cluster (Some (counter_of tables.header tables.reftable image cluster.0)) (is_copied v)))
+    (l2_flags_from (geometry_of tables.header) (counter_of tables.header tables.reftable image) index (numbers_at (l2_layout (geometry_of tables.header)) cluster image) 0)
+    (l1_flags tables image (index + 1) (drop (index + 1) tables.l1))

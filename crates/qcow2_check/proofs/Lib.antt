@@ -7,6 +7,8 @@ pub mod FindingsListLemmas
 pub mod FlagsLemmas
 pub mod GroupsLemmas
 pub mod NamedTablesLemmas
+pub mod RepeatedLemmas
+pub mod RepeatsLemmas
 pub mod SinkLemmas
 pub mod SolesLemmas
 pub mod TallyLemmas

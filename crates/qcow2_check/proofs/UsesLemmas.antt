@@ -1,4 +1,4 @@
-use Rattle.std.proofs.Common.{◌≡◌, ℕ, true, false, zero, suc, ◌+◌, ◌-◌, ◌*◌, ◌/◌, ◌%◌, ◌^◌, ◌<◌, ◌≤◌, List, [], ◌∷◌, ◌++◌, flat_map, take, length, get_or, slice_index, Some, None, Result, Ok, Err, add-zero, div-add-mod', ap, refl, ◌∙◌, le_refl, arith, Bool, IsTrue, Option, IfSome}
+use Rattle.std.proofs.Common.{◌≡◌, ℕ, true, false, zero, suc, ◌+◌, ◌-◌, ◌*◌, ◌/◌, ◌%◌, ◌^◌, ◌<◌, ◌≤◌, List, [], ◌∷◌, ◌++◌, flat_map, take, length, get_or, slice_index, Some, None, Result, Ok, Err, add-zero, div-add-mod', ap, refl, ◌∙◌, le_refl, arith, Bool, IsTrue, Option, IfSome, OnOk}
 use Rattle.std.proofs.lemmas.List.{append-nil}
 use Rattle.std.proofs.lemmas.Bool.Decides.{nat_tests}
 use Rattle.std.proofs.Math.Pow.{pow_mono}
@@ -18,8 +18,8 @@ use Rattle.qcow2_base.specs.Storage.{Image}
 use Rattle.qcow2_base.specs.declared.fault.Fault.{Fault}
 use Rattle.qcow2_metadata.specs.Header.{Geometry, geometry}
 use Rattle.qcow2_metadata.specs.Results.{and_then}
-use Rattle.qcow2_check.proofs.TallyLemmas.{counts_then}
-use Rattle.qcow2_check.specs.Tally.{CountsMore, TallyState, ClusterUse, used_clusters}
+use Rattle.qcow2_check.proofs.TallyLemmas.{counts_then, nothing_counts, times_count}
+use Rattle.qcow2_check.specs.Tally.{CountsMore, CountsTimes, TallyState, ClusterUse, repetition, used_clusters}
 use Rattle.qcow2_check.specs.Uses.{all_load, entry_uses, l1_entry_loads}
 use Rattle.qcow2_check.specs.declared.tally.TallyKind.TheVariants.{Guest}
 
@@ -53,6 +53,10 @@ uses_more f xs i d below =
 pub no_entry_uses : (g : Geometry) (numbers : List ℕ) → g.external_data_file ≡ true → flat_map (entry_uses g) numbers ≡ []
 no_entry_uses g [] external = refl
 no_entry_uses g (v ∷ vs) external = grind (arith, external, no_entry_uses g vs external)
+
+pub no_entries_count : (g : Geometry) (numbers : List ℕ) (tally : TallyState) → g.external_data_file ≡ true
+    → CountsMore (flat_map (entry_uses g) numbers) tally tally
+no_entries_count g numbers tally external = rw (no_entry_uses g numbers external) (record { first = refl; end = omega arith; cells = λ c from before. refl })
 
 -- the answer where all could be loaded
 abbrev pub loaded : Result (Unit {0}) Fault
@@ -175,3 +179,14 @@ guest_fits cb index l2_index low l1 l2 =
     let entries : 2 ^ (cb - 3) ≤ 2 ^ 18 = pow_mono few in
     let below = mul-add-lt index (2 ^ (cb - 3)) l2_index 4194304 l1 l2 in
     omega (arith, below, entries)
+
+-- what an entry uses, that many times over
+pub entry_counts : (cb v times : ℕ) (clusters : ClustersToFreeEntry) (answer : Result (Unit {0}) Fault) (a b : TallyState)
+    → allocation (geometry cb false) v ≡ Some clusters → OnOk answer (CountsTimes times (record { kind = Guest; clusters = clusters }) a b)
+    → OnOk answer (CountsMore (repetition times (entry_uses (geometry cb false) v)) a b)
+entry_counts cb v times clusters (Ok done) a b is counts = rw is (times_count times (record { kind = Guest; clusters = clusters }) a b counts)
+entry_counts cb v times clusters (Err fault) a b is counts = tt
+
+pub no_entry_counts : (cb v times : ℕ) (tally : TallyState) → allocation (geometry cb false) v ≡ None
+    → CountsMore (repetition times (entry_uses (geometry cb false) v)) tally tally
+no_entry_counts cb v times tally none = rw none (nothing_counts times tally)

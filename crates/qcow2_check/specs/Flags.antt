@@ -10,6 +10,7 @@ use Rattle.qcow2_metadata.specs.Placed.{numbers_at}
 use Rattle.qcow2_metadata.specs.Table.{TableState, l2_entries, l2_layout}
 use Rattle.qcow2_check.specs.Counters.{CountersState, IsKeptBlockOf, counter_of}
 use Rattle.qcow2_check.specs.NamedTables.{named_cluster}
+use Rattle.qcow2_check.specs.Repeats.{is_again, table_names}
 use Rattle.qcow2_check.specs.Soles.{AreSoles}
 use Rattle.qcow2_check.specs.Uses.{ImageTables, all_load}
 use Rattle.qcow2_check.specs.declared.flags.FlagPlace.{FlagPlace}
@@ -75,15 +76,20 @@ table_flags header reftable image index v = elim (named_cluster header.v2.cluste
       l2_flags_from g (counter_of header reftable image) index (numbers_at (l2_layout g) cluster image) 0
 ]
 
--- the wrong flags of L1 entries from an index on, each followed by those of its L2 table
-abbrev pub l1_flags : HeaderRecord → List ℕ → Image → ℕ → List ℕ → List WrongFlag
-l1_flags header reftable image index [] = []
-l1_flags header reftable image index (v ∷ vs) = option_to_list (l1_flag header reftable image index v)
-    ++ table_flags header reftable image index v ++ l1_flags header reftable image (index + 1) vs
+-- the same, unless an L1 entry before it names that table too
+abbrev pub first_flags : ImageTables → Image → ℕ → ℕ → List WrongFlag
+first_flags tables image index v =
+    if is_again (table_names tables.l1) index then [] else table_flags tables.header tables.reftable image index v
 
--- all wrong flags of an image with these tables
+-- the wrong flags of L1 entries from an index on, each followed by those of its L2 table
+abbrev pub l1_flags : ImageTables → Image → ℕ → List ℕ → List WrongFlag
+l1_flags tables image index [] = []
+l1_flags tables image index (v ∷ vs) = option_to_list (l1_flag tables.header tables.reftable image index v)
+    ++ first_flags tables image index v ++ l1_flags tables image (index + 1) vs
+
+-- all wrong flags of an image with these tables, those of an L2 table once, as entries of the first L1 entry that names it
 abbrev pub image_flags : ImageTables → Image → List WrongFlag
-image_flags tables image = l1_flags tables.header tables.reftable image 0 tables.l1
+image_flags tables image = l1_flags tables image 0 tables.l1
 
 -- the L1 entry at an index has no wrong flag, nor has any entry of its L2 table
 abbrev pub IsClean : ImageTables → Image → ℕ → Type 0
@@ -125,11 +131,11 @@ flag_tables reader = record { header = reader.header; l1 = reader.l1; reftable =
 abbrev pub flags_left : FlagsState → Image → List WrongFlag
 flags_left reader image = elim reader.table [
   | None ↦
-      l1_flags reader.header reader.counters.reftable image reader.index (drop reader.index reader.l1)
+      l1_flags (flag_tables reader) image reader.index (drop reader.index reader.l1)
   | Some table ↦
       l2_flags_from (geometry_of reader.header) (counter_of reader.header reader.counters.reftable image) reader.index
       table.numbers reader.position
-      ++ l1_flags reader.header reader.counters.reftable image (reader.index + 1) (drop (reader.index + 1) reader.l1)
+      ++ l1_flags (flag_tables reader) image (reader.index + 1) (drop (reader.index + 1) reader.l1)
 ]
 
 -- how many steps a reader needs yet at most: for each L1 entry one to its L2 table, one for each entry there, and one past it

@@ -7,6 +7,7 @@ pub mod Groups
 pub mod ImageTables
 pub mod L1Length
 pub mod NamedTables
+pub mod Repeats
 pub mod Soles
 pub mod Tally
 pub mod Totals

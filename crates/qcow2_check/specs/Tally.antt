@@ -1,6 +1,6 @@
 -- How are the uses of clusters counted, in memory of a bounded size?
 pub mod Cells
-use Rattle.std.specs.Prelude.{◌≡◌, ℕ, Bool, ◌==◌, ◌&&◌, ◌||◌, ◌+◌, ◌-◌, ◌/◌, ◌%◌, ◌<◌, ◌≤◌, nat_lt, if◌then◌else◌, List, flat_map, length, slice_index, take, Option, IsSome, unwrap_or}
+use Rattle.std.specs.Prelude.{◌≡◌, ℕ, zero, suc, Bool, ◌==◌, ◌&&◌, ◌||◌, ◌+◌, ◌-◌, ◌/◌, ◌%◌, ◌<◌, ◌≤◌, nat_lt, if◌then◌else◌, List, [], ◌++◌, flat_map, length, slice_index, take, Option, IsSome, unwrap_or}
 use Rattle.std.specs.Ordering.{nat_cmp}
 use Rattle.std.specs.BTreeMap.{is_at}
 use Rattle.std.specs.List.{fold}
@@ -32,9 +32,19 @@ mark_of Guest = 4
 abbrev pub with_use : TallyKind → ℕ → ℕ
 with_use kind cell = cell + 8 + (if cell / mark_of kind % 2 == 1 then 0 else mark_of kind)
 
+-- the cell with that many uses of a kind more
+abbrev pub with_uses : TallyKind → ℕ → ℕ → ℕ
+with_uses kind zero cell = cell
+with_uses kind (suc times) cell = with_uses kind times (with_use kind cell)
+
 -- the cell of cluster c with what clusters that are used add to it
 abbrev pub cell_with : ℕ → ℕ → ClusterUse → ℕ
 cell_with c cell used = if is_among used.clusters c then with_use used.kind cell else cell
+
+-- uses that many times over
+abbrev pub repetition : {Used : Type 0} → ℕ → List Used → List Used
+repetition zero uses = []
+repetition (suc times) uses = uses ++ repetition times uses
 
 -- the cells of the clusters from a first to before an end: those of the first clusters one after another, and those of others
 -- by their numbers, of which there is a most
@@ -71,6 +81,13 @@ pub record CountsMore (uses : List ClusterUse) (old new : TallyState) : Type 0 w
   pub first : new.first ≡ old.first
   pub end : new.end ≤ old.end
   pub cells : (c : ℕ) → old.first ≤ c → c < new.end → cell_at new c ≡ fold (cell_with c) (cell_at old c) uses
+
+-- a tally that counted these clusters that many times more
+pub record CountsTimes (times : ℕ) (used : ClusterUse) (old new : TallyState) : Type 0 where
+  pub first : new.first ≡ old.first
+  pub end : new.end ≤ old.end
+  pub cells : (c : ℕ) → old.first ≤ c → c < new.end →
+      cell_at new c ≡ (if is_among used.clusters c then with_uses used.kind times (cell_at old c) else cell_at old c)
 
 -- a tally that counted what the elements of a list before an index use, and then counts what 16 more do
 abbrev pub CountsGroup : (ℕ → List ClusterUse) → List ℕ → ℕ → TallyState → TallyState → Type 0

@@ -9,7 +9,8 @@ use Rattle.qcow2_metadata.specs.Header.{Geometry, HeaderRecord, geometry_of}
 use Rattle.qcow2_metadata.specs.Placed.{numbers_at}
 use Rattle.qcow2_metadata.specs.Table.{l2_entries, l2_layout}
 use Rattle.qcow2_check.specs.NamedTables.{l1_cluster, named_block, named_cluster, reftable_cluster}
-use Rattle.qcow2_check.specs.Tally.{ClusterUse, CountsMore, TallyState}
+use Rattle.qcow2_check.specs.Repeats.{times_at}
+use Rattle.qcow2_check.specs.Tally.{ClusterUse, CountsMore, TallyState, repetition}
 use Rattle.qcow2_check.specs.Uses.{ImageTables}
 use Rattle.qcow2_check.specs.declared.tally.TallyKind.{TallyKind}
 use Rattle.qcow2_check.specs.declared.tally.TallyKind.TheVariants as tally
@@ -78,6 +79,11 @@ tables_list tables = header_list tables.header
 -- what the guest's disk uses, in its order
 abbrev pub guest_list : ImageTables → Image → List Use
 guest_list tables image = list_from (l1_list (geometry_of tables.header) image) 0 tables.l1
+
+-- the same, where what the L2 table of each L1 entry refers to counts so often
+abbrev pub repeated_list : ImageTables → List ℕ → Image → List Use
+repeated_list tables times image =
+    list_from (λ index v. repetition (times_at times index) (l1_list (geometry_of tables.header) image index v)) 0 tables.l1
 
 -- all that an image with these tables uses, in order
 abbrev pub use_list : ImageTables → Image → List Use

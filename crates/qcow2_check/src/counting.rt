@@ -14,51 +14,60 @@ ghost use Rattle.qcow2_metadata.specs.Results.{Reads};
 ghost use Rattle.qcow2_metadata.specs.Table.{IsEntryFault};
 ghost use Rattle.qcow2_check.specs.Flags.{KeepsMarks};
 ghost use Rattle.qcow2_check.specs.NamedTables.{IsInImage, named_cluster};
-ghost use Rattle.qcow2_check.specs.Tally.{CountsGroup, CountsMore, used_clusters};
+ghost use Rattle.qcow2_check.specs.Repeats.{AreTimesOf, table_names};
+ghost use Rattle.qcow2_check.specs.Tally.{CountsGroup, CountsMore, CountsTimes, repetition, used_clusters};
 ghost use Rattle.qcow2_check.specs.Uses.{all_load, entry_uses, image_uses, l1_entry_loads};
-ghost use Rattle.qcow2_check.specs.Walk.{CountsUses, Took, guest_list, l1_list, tally_kind};
+ghost use Rattle.qcow2_check.specs.Walk.{CountsUses, Took, l1_list, repeated_list, tally_kind};
 
 use crate::flags::Marks;
 use crate::groups::{TOGETHER, are_unallocated, entry_at, row_at, starts_group};
 use crate::image_tables::ImageTables;
 use crate::named_tables::{load_l2_table, named_cluster};
+use crate::repeats::Repeats;
 use crate::tally::{Tally, TallyKind};
 use crate::use_sink::UseSink;
 use crate::uses::{Use, UseKind};
 use crate::walk::walk_tables;
-use qcow2_base::{ClusterCount, Fault, HostCluster, Storage, field};
+use qcow2_base::{Fault, HostCluster, Storage, field};
 use qcow2_metadata::{L2Entry, L2Table, Table, TableEntry};
 
-// Counts one reference to each of `count` clusters from `first` on.
+// Counts `times` references to each of `count` clusters from `first` on.
 #[tactic(auto, using(crate::proofs::TallyLemmas::counts_next))]
 fn count_clusters(
     tally: &mut Tally,
     kind: TallyKind,
     first: HostCluster,
     count: u64,
+    times: u32,
 ) -> Result<(), Fault>
     ensures fault { IsOkUnless result NoMemory }
-    ensures counted { OnOk result (CountsMore (used_clusters kind first count ∷ []) tally.old tally.new) }
+    ensures counted { OnOk result (CountsTimes times (used_clusters kind first count)
+        tally.old tally.new) }
 {
     let start = first.0.max(tally.first());
     let end = first.0.saturating_add(count).min(tally.end());
     for cluster in start..end.max(start) {
-        tally.add(cluster, kind)?;
+        tally.add(cluster, kind, times)?;
     }
     Ok(())
 }
 
-// Counts the clusters that an L2 entry refers to.
+// Counts `times` references to the clusters that an L2 entry refers to.
 #[inline(never)]
-fn count_entry(tally: &mut Tally, entry: L2Entry, cluster_bits: u32) -> Result<(), Fault>
+#[tactic(auto, using(crate::proofs::UsesLemmas::entry_counts, crate::proofs::UsesLemmas::no_entry_counts))]
+fn count_entry(
+    tally: &mut Tally,
+    entry: L2Entry,
+    cluster_bits: u32,
+    times: u32,
+) -> Result<(), Fault>
     requires { IsClusterBits cluster_bits }
     ensures fault { IsOkUnless result NoMemory }
-    ensures counted { OnOk result (CountsMore (entry_uses (geometry cluster_bits false) entry)
-        tally.old tally.new) }
+    ensures counted { OnOk result (CountsMore
+        (repetition times (entry_uses (geometry cluster_bits false) entry)) tally.old tally.new) }
 {
     match entry.allocation(cluster_bits, false) {
-        Some((first, ClusterCount(1))) => tally.add(first.0, TallyKind::Guest),
-        Some((first, count)) => count_clusters(tally, TallyKind::Guest, first, count.0),
+        Some((first, count)) => { count_clusters(tally, TallyKind::Guest, first, count.0, times) }
         None => Ok(()),
     }
 }
@@ -132,7 +141,7 @@ fn count_group(tally: &mut Tally, table: &L2Table, index: usize) -> bool
 }
 
 // Counts the clusters that the entries of an L2 table refer to.
-#[tactic(auto, using(crate::proofs::UsesLemmas::no_entry_uses, crate::proofs::UsesLemmas::counts_entry))]
+#[tactic(auto, using(crate::proofs::TallyLemmas::once_counts, crate::proofs::UsesLemmas::counts_entry))]
 fn count_entries(tally: &mut Tally, table: &L2Table) -> Result<(), Fault>
     ensures fault { IsOkUnless result NoMemory }
     ensures counted { OnOk result (CountsMore (flat_map (entry_uses table.now.geometry) table.now.numbers)
@@ -149,10 +158,26 @@ fn count_entries(tally: &mut Tally, table: &L2Table) -> Result<(), Fault>
         } else {
             let entry = entry_at(table, index);
             if !count_single(tally, entry, cluster_bits) {
-                count_entry(tally, entry, cluster_bits)?;
+                count_entry(tally, entry, cluster_bits, 1)?;
             }
             index += 1;
         }
+    }
+    Ok(())
+}
+
+// Counts `times` references to the clusters that each entry of an L2 table refers to.
+#[tactic(auto, using(crate::proofs::UsesLemmas::counts_entry))]
+fn count_repeated(tally: &mut Tally, table: &L2Table, times: u32) -> Result<(), Fault>
+    ensures fault { IsOkUnless result NoMemory }
+    ensures counted { OnOk result (CountsMore
+        (repetition times (flat_map (entry_uses table.now.geometry) table.now.numbers)) tally.old tally.new) }
+{
+    if table.external_data_file() {
+        return Ok(());
+    }
+    for index in 0..table.entries() {
+        count_entry(tally, entry_at(table, index), table.cluster_bits(), times)?;
     }
     Ok(())
 }
@@ -180,7 +205,7 @@ impl UseSink for Tally {
 
     fn take(&mut self, used: Use) -> Result<(), Fault> {
         let (kind, clusters) = (used.kind.tally_kind(), used.clusters);
-        count_clusters(self, kind, clusters.first, clusters.count.0)
+        count_clusters(self, kind, clusters.first, clusters.count.0, 1)
     }
 
     #[tactic(auto, using(crate::proofs::CountingLemmas::counted_entries))]
@@ -209,8 +234,20 @@ pub(crate) fn most_uses(tables: &ImageTables<'_>) -> u64 {
         .saturating_add(3)
 }
 
-// Counts the references of the L2 table at a cluster, which the L1 entry at an index names, and notes the
-// flags of both.
+// Counts the references of an L2 table `times` times.
+fn count_times(tally: &mut Tally, table: &L2Table, times: u32) -> Result<(), Fault>
+    ensures fault { IsOkUnless result NoMemory }
+    ensures counted { OnOk result (CountsMore
+        (repetition times (flat_map (entry_uses table.now.geometry) table.now.numbers)) tally.old tally.new) }
+{
+    match times {
+        1 => count_entries(tally, table),
+        _ => count_repeated(tally, table, times),
+    }
+}
+
+// Counts the references of the L2 table at a cluster, which the L1 entry at an index names, `times` times,
+// and notes the flags of both.
 fn count_table<S: Storage>(
     tally: &mut Tally,
     marks: &mut Marks,
@@ -218,6 +255,7 @@ fn count_table<S: Storage>(
     tables: &ImageTables<'_>,
     index: usize,
     cluster: HostCluster,
+    times: u32,
 ) -> Result<(), Fault>
     requires cluster { IsInImage tables.now.header.v2.cluster_bits cluster }
     requires named { named_cluster tables.now.header.v2.cluster_bits (slice_index tables.now.l1 index)
@@ -226,37 +264,38 @@ fn count_table<S: Storage>(
     ensures reads { Reads (λ done. done) result
         (λ bytes. l1_entry_loads (geometry_of tables.now.header) bytes (slice_index tables.now.l1 index))
         IsEntryFault (S.state image.old) (S.state image.new) }
-    ensures taken { OnOk result (Took CountsUses (S.state image.old)
-        (λ bytes. l1_list (geometry_of tables.now.header) bytes index (slice_index tables.now.l1 index))
+    ensures taken { OnOk result (Took CountsUses (S.state image.old) (λ bytes. repetition times
+        (l1_list (geometry_of tables.now.header) bytes index (slice_index tables.now.l1 index)))
         tally.old tally.new) }
     ensures marks { KeepsMarks tables.now (S.state image.old) marks.old marks.new }
 {
     let alloc = tables.l1_table.allocator();
     let table = load_l2_table(alloc, image, tables.header, cluster)?;
-    tally.take_table(&table, index)?;
+    count_times(tally, &table, times)?;
     marks.pass_table(tables.l1_table, index, cluster, &table);
     Ok(())
 }
 
-// Counts the references of the L2 table that an L1 entry names, and notes the flags of both.
+// Counts the references of the L2 table that an L1 entry names `times` times, and notes the flags of both.
 fn count_l1_entry<S: Storage>(
     tally: &mut Tally,
     marks: &mut Marks,
     image: &mut S,
     tables: &ImageTables<'_>,
     index: usize,
+    times: u32,
 ) -> Result<(), Fault>
     requires { index < most_l1_entries }
     ensures reads { Reads (λ done. done) result
         (λ bytes. l1_entry_loads (geometry_of tables.now.header) bytes (slice_index tables.now.l1 index))
         IsEntryFault (S.state image.old) (S.state image.new) }
-    ensures taken { OnOk result (Took CountsUses (S.state image.old)
-        (λ bytes. l1_list (geometry_of tables.now.header) bytes index (slice_index tables.now.l1 index))
+    ensures taken { OnOk result (Took CountsUses (S.state image.old) (λ bytes. repetition times
+        (l1_list (geometry_of tables.now.header) bytes index (slice_index tables.now.l1 index)))
         tally.old tally.new) }
     ensures marks { KeepsMarks tables.now (S.state image.old) marks.old marks.new }
 {
     match named_cluster(tables.l1_table, index) {
-        Some(cluster) => count_table(tally, marks, image, tables, index, cluster),
+        Some(cluster) => count_table(tally, marks, image, tables, index, cluster, times),
         None => {
             marks.pass_unnamed(index);
             Ok(())
@@ -264,33 +303,41 @@ fn count_l1_entry<S: Storage>(
     }
 }
 
-// Counts the references of all L2 entries, in the order of the guest's disk, and notes the flags.
+// Counts the references of all L2 entries, and notes the flags. Reads each table once, at the first L1 entry
+// that names it.
 fn count_guest<S: Storage>(
     tally: &mut Tally,
     marks: &mut Marks,
     image: &mut S,
     tables: &ImageTables<'_>,
+    repeats: &Repeats,
 ) -> Result<(), Fault>
+    requires { AreTimesOf (table_names tables.now.l1) repeats.now }
     ensures reads { Reads (λ done. done) result (all_load (geometry_of tables.now.header) tables.now.l1)
         IsEntryFault (S.state image.old) (S.state image.new) }
-    ensures taken { OnOk result (Took CountsUses (S.state image.old) (guest_list tables.now)
-        tally.old tally.new) }
+    ensures taken { OnOk result (Took CountsUses (S.state image.old)
+        (repeated_list tables.now repeats.now) tally.old tally.new) }
     ensures marks { KeepsMarks tables.now (S.state image.old) marks.old marks.new }
 {
     for index in 0..tables.l1_table.entries() {
-        count_l1_entry(tally, marks, image, tables, index)?;
+        let times = repeats.times(index);
+        if times > 0 || named_cluster(tables.l1_table, index).is_none() {
+            count_l1_entry(tally, marks, image, tables, index, times)?;
+        }
     }
     Ok(())
 }
 
 /// Counts all references of an image to clusters, and notes which of the first L1 entries and their L2 tables
-/// have no wrong flag.
+/// have no wrong flag. `repeats` must be those of the L1 table.
 pub(crate) fn count_image<S: Storage>(
     tally: &mut Tally,
     marks: &mut Marks,
     image: &mut S,
     tables: &ImageTables<'_>,
+    repeats: &Repeats,
 ) -> Result<(), Fault>
+    requires { AreTimesOf (table_names tables.now.l1) repeats.now }
     ensures reads { Reads (λ done. done) result (all_load (geometry_of tables.now.header) tables.now.l1)
         IsEntryFault (S.state image.old) (S.state image.new) }
     ensures counted { OnOk result (OnImage (S.state image.old) (λ bytes.
@@ -299,5 +346,5 @@ pub(crate) fn count_image<S: Storage>(
     ensures marks { KeepsMarks tables.now (S.state image.old) marks.old marks.new }
 {
     walk_tables(tables, tally)?;
-    count_guest(tally, marks, image, tables)
+    count_guest(tally, marks, image, tables, repeats)
 }

@@ -13,6 +13,7 @@ ghost use Rattle.qcow2_check.specs.Uses.{all_load, image_tables};
 use crate::counters::Counters;
 use crate::flags::{Flags, Marks};
 use crate::image_tables::{ImageTables, OpenTables, open_tables};
+use crate::repeats::Repeats;
 use crate::soles::Soles;
 use crate::tally::{Tally, count_of, is_shared};
 use crate::windows::Windows;
@@ -67,6 +68,7 @@ impl Finding {
 pub struct Findings<'a> {
     header: &'a Header,
     l1_table: L1Table,
+    repeats: Repeats,
     counters: Counters<'a>,
     tally: Option<Tally>,
     marks: Marks,
@@ -81,6 +83,7 @@ impl<'a> Model for Findings<'a> {
     ghost use Rattle.qcow2_metadata.specs.Placed.{place_fault};
     ghost use Rattle.qcow2_check.specs.Findings.{FindingsState};
     ghost use Rattle.qcow2_check.specs.NamedTables.{l1_cluster, l1_layout};
+    ghost use Rattle.qcow2_check.specs.Repeats.{AreTimesOf, table_names};
 
     ghost Value = { FindingsState };
 
@@ -96,6 +99,7 @@ impl<'a> Model for Findings<'a> {
     ghost invariant = { λ f. (f.l1_table.geometry ≡ geometry_of f.header.now)
         × (length f.l1_table.numbers ≤ most_l1_entries)
         × (length f.l1_table.numbers ≡ f.header.now.v2.l1_size)
+        × AreTimesOf (table_names f.l1_table.numbers) f.repeats
         × (f.l1_table.cluster ≡ Some (l1_cluster f.header.now))
         × (f.l1_table.modified ≡ false)
         × (place_fault (l1_layout f.header.now) (l1_cluster f.header.now) ≡ None)
@@ -208,11 +212,13 @@ impl<'a> Findings<'a> {
             l1_table: &l1_table,
             reftable: counters.reftable(),
         };
+        let repeats = Repeats::new(&l1_table)?;
         let mut windows = Windows::new(&tables);
-        let tally = windows.count_and_mark(image, &tables, 0, &mut marks)?;
+        let tally = windows.count_and_mark(image, &tables, &repeats, 0, &mut marks)?;
         Ok(Findings {
             header,
             l1_table,
+            repeats,
             counters,
             tally: Some(tally),
             marks,
@@ -259,7 +265,13 @@ impl<'a> Findings<'a> {
         ensures left { (image : Image) → flags_left result image ≡ image_flags (tables_of self.entry) image }
         ensures reader { (image : Image) → IsFindingsOf image self.entry → IsFlagsOf image result }
     {
-        Flags::new(self.header, self.l1_table, self.counters, self.marks)
+        Flags::new(
+            self.header,
+            self.l1_table,
+            self.repeats,
+            self.counters,
+            self.marks,
+        )
     }
 
     /// The L1 table and the refcount table of the image, and the last counted references if any are held.
@@ -419,7 +431,10 @@ impl<'a> Findings<'a> {
             l1_table: &self.l1_table,
             reftable: self.counters.reftable(),
         };
-        let tally = self.windows.count(image, &tables, self.position)?;
+        let mut marks = Marks::none(self.l1_table.allocator());
+        let tally = self
+            .windows
+            .count_and_mark(image, &tables, &self.repeats, self.position, &mut marks)?;
         self.tally = Some(tally);
         Ok(())
     }

@@ -16,6 +16,7 @@ mod marks;
 use crate::counters::Counters;
 use crate::groups::TOGETHER;
 use crate::named_tables::{load_l2_table, named_cluster};
+use crate::repeats::Repeats;
 use crate::soles::Soles;
 pub(crate) use marks::Marks;
 use marks::starts_right;
@@ -46,13 +47,14 @@ pub struct WrongFlag {
 }
 
 /// A reader of an image's wrong copied flags, one after another: in the order of L1 entries, each followed by
-/// the flags of its L2 table. It holds the L1 table, the refcount table, a refcount block, an L2 table, and
-/// what is known of flags before each is tested. Contracts see these and the entry that the reader has
-/// reached.
+/// the flags of its L2 table, unless an entry before it names that table too. It holds the L1 table, the
+/// refcount table, a refcount block, an L2 table, and what is known of flags before each is tested. Contracts
+/// see these and the entry that the reader has reached.
 #[derive(Drop)]
 pub struct Flags<'a> {
     header: &'a Header,
     l1_table: L1Table,
+    repeats: Repeats,
     counters: Counters<'a>,
     marks: Marks,
     index: usize,
@@ -66,6 +68,7 @@ impl<'a> Model for Flags<'a> {
     ghost use Rattle.qcow2_metadata.specs.Header.{geometry_of};
     ghost use Rattle.qcow2_metadata.specs.Table.{l2_entries};
     ghost use Rattle.qcow2_check.specs.Flags.{FlagsState};
+    ghost use Rattle.qcow2_check.specs.Repeats.{AreTimesOf, table_names};
 
     ghost Value = { FlagsState };
 
@@ -81,6 +84,7 @@ impl<'a> Model for Flags<'a> {
 
     ghost invariant = { λ f. (f.l1_table.geometry ≡ geometry_of f.header.now)
         × (length f.l1_table.numbers ≤ most_l1_entries)
+        × AreTimesOf (table_names f.l1_table.numbers) f.repeats
         × (f.counters.header ≡ f.header.now)
         × (f.index ≤ length f.l1_table.numbers)
         × IfSome f.table (λ table. (table.geometry ≡ geometry_of f.header.now)
@@ -231,18 +235,21 @@ impl<'a> Flags<'a> {
     ghost use Rattle.qcow2_base.specs.Storage.{OnImage, OnlyReads};
     ghost use Rattle.qcow2_metadata.specs.Header.{geometry_of};
     ghost use Rattle.qcow2_check.specs.Findings.{IsLaterFault};
+    ghost use Rattle.qcow2_check.specs.Repeats.{AreTimesOf, table_names};
     ghost use Rattle.qcow2_check.specs.Flags.{GoesFurther, IsFlagsOf, MovesFlags, PassesFlag, StepsFurther, TakesFlag, flags_left};
 
-    /// A reader before the first wrong flag. The L1 table, the refcounts and the marks must be those of one
-    /// image with this header.
+    /// A reader before the first wrong flag. The L1 table, its repeats, the refcounts and the marks must be
+    /// those of one image with this header.
     pub(crate) fn new(
         header: &'a Header,
         l1_table: L1Table,
+        repeats: Repeats,
         counters: Counters<'a>,
         marks: Marks,
     ) -> Flags<'a>
         requires geometry { l1_table.geometry ≡ geometry_of header.now }
         requires entries { length l1_table.numbers ≤ most_l1_entries }
+        requires repeats { AreTimesOf (table_names l1_table.numbers) repeats }
         requires counters { counters.header ≡ header.now }
         ensures { result ≡ record {
           header = header.now;
@@ -257,6 +264,7 @@ impl<'a> Flags<'a> {
         Flags {
             header,
             l1_table,
+            repeats,
             counters,
             marks,
             index: 0,
@@ -340,8 +348,9 @@ impl<'a> Flags<'a> {
         Ok(found)
     }
 
-    // Opens the L2 table of the reader's L1 entry, and returns the entry's own copied flag if it is wrong.
-    // Skips an entry that names no table, and one that is known to be clean.
+    // Opens the L2 table of the reader's L1 entry, unless an entry before it names the table too, and returns
+    // the entry's own copied flag if it is wrong. Skips an entry that names no table, and one that is known
+    // to be clean.
     fn open_table<S: Storage>(&mut self, image: &mut S) -> Result<Option<WrongFlag>, Fault>
         requires table { self.old.table ≡ None }
         requires index { self.old.index < length self.old.l1 }
@@ -362,11 +371,16 @@ impl<'a> Flags<'a> {
             return Ok(None);
         };
         let counter = self.counters.get(image, cluster)?;
+        let is_set = self.l1_table.get(self.index).is_copied();
+        let place = FlagPlace::L1Index(self.index);
+        let flag = wrong_flag(place, cluster, Some(counter), is_set);
+        if self.repeats.times(self.index) == 0 {
+            self.index += 1;
+            return Ok(flag);
+        }
         let alloc = self.l1_table.allocator();
         self.table = Some(load_l2_table(alloc, image, self.header, cluster)?);
         self.position = 0;
-        let is_set = self.l1_table.get(self.index).is_copied();
-        let place = FlagPlace::L1Index(self.index);
-        Ok(wrong_flag(place, cluster, Some(counter), is_set))
+        Ok(flag)
     }
 }

@@ -3,7 +3,7 @@
 ghost use Rattle.std.specs.Prelude.{◌≡◌, ℕ, ◌+◌, ◌-◌, ◌/◌, ◌^◌, ◌<◌, ◌≤◌, [], ◌∷◌, IfOk, IfSome, IsOkUnless, IsTrue, None, OnOk, false, length, replicate, slice_index};
 ghost use Rattle.qcow2_base.specs.Format.{max_file_length};
 ghost use Rattle.qcow2_base.specs.declared.fault.Fault.TheVariants.{NoMemory};
-ghost use Rattle.qcow2_check.specs.Tally.{CountsMore, IsPlain, cell_at, is_shared_cell, mark_of, used_clusters, with_use};
+ghost use Rattle.qcow2_check.specs.Tally.{CountsMore, CountsTimes, IsPlain, cell_at, is_shared_cell, mark_of, used_clusters, with_use, with_uses};
 ghost use Rattle.qcow2_check.specs.declared.tally.TallyKind.TheVariants.{Guest};
 
 mod cells;
@@ -39,12 +39,17 @@ impl TallyKind {
     }
 }
 
-// The cell with one more reference, if the count fits.
-#[inline(always)]
-fn with_use(cell: u64, kind: TallyKind) -> Option<u64>
-    ensures { IfSome result (λ more. more ≡ with_use kind cell) }
+// The cell with `times` more references, if the count fits.
+#[tactic(auto, using(crate::proofs::TallyLemmas::uses_added))]
+fn with_uses(cell: u64, kind: TallyKind, times: u32) -> Option<u64>
+    ensures { IfSome result (λ more. more ≡ with_uses kind times cell) }
 {
-    with_use_if(cell, kind, true)
+    if times == 0 {
+        return Some(cell);
+    }
+    let mark = kind.mark();
+    let new = if cell / mark % 2 == 1 { 0 } else { mark };
+    cell.checked_add(8 * u64::from(times) + new)
 }
 
 // The cell with one more reference if `is_used`, else unchanged. `None` if the count doesn't fit. Has no
@@ -225,12 +230,8 @@ impl Tally {
         ensures same { result ≡ false → self.new ≡ self.old }
         ensures within { result ≡ false → (self.old.first ≤ cluster) × (cluster < self.old.end) }
     {
-        let index = if is_used {
-            cluster.wrapping_sub(self.first)
-        } else {
-            0
-        };
-        self.dense.add_if(index as usize, kind, is_used)
+        let index = cluster.wrapping_sub(self.first) as usize;
+        self.dense.add_if(index, kind, is_used)
             || !is_used
             || cluster < self.first
             || cluster >= self.end
@@ -247,34 +248,38 @@ impl Tally {
         first >= self.first && self.dense.add_group((first - self.first) as usize)
     }
 
-    /// Counts a reference to a cluster, unless the cluster lies outside the tally. If the map then has too
-    /// many cells, the tally drops the last of them and ends before its cluster. Fails if memory runs out or
-    /// the count doesn't fit (fault 35).
-    pub(crate) fn add(&mut self, cluster: u64, kind: TallyKind) -> Result<(), Fault>
+    /// Counts `times` references to a cluster, unless the cluster lies outside the tally. If the map then has
+    /// too many cells, the tally drops the last of them and ends before its cluster. Fails if memory runs out
+    /// or the count doesn't fit (fault 35).
+    pub(crate) fn add(&mut self, cluster: u64, kind: TallyKind, times: u32) -> Result<(), Fault>
         ensures fault { IsOkUnless result NoMemory }
-        ensures counted { OnOk result (CountsMore
-            (used_clusters kind (record { 0 = cluster }) 1 ∷ []) self.old self.new) }
+        ensures counted { OnOk result (CountsTimes times
+            (used_clusters kind (record { 0 = cluster }) 1) self.old self.new) }
     {
-        if self.try_add_if(cluster, kind, true) {
+        if cluster < self.first || cluster >= self.end {
             return Ok(());
         }
-        if cluster - self.first < self.dense.len() as u64 {
+        let index = (cluster - self.first) as usize;
+        if index >= self.dense.len() {
+            return self.add_sparse(cluster, kind, times);
+        }
+        if !self.dense.add(index, kind, times) {
             return Err(Fault::NoMemory);
         }
-        self.add_sparse(cluster, kind)
+        Ok(())
     }
 
     // `add` for a cluster after the dense cells.
     #[inline(never)]
-    fn add_sparse(&mut self, cluster: u64, kind: TallyKind) -> Result<(), Fault>
+    fn add_sparse(&mut self, cluster: u64, kind: TallyKind, times: u32) -> Result<(), Fault>
         requires after { dense_end self.old ≤ cluster }
         requires before { cluster < self.old.end }
         ensures fault { IsOkUnless result NoMemory }
-        ensures counted { OnOk result (CountsMore
-            (used_clusters kind (record { 0 = cluster }) 1 ∷ []) self.old self.new) }
+        ensures counted { OnOk result (CountsTimes times
+            (used_clusters kind (record { 0 = cluster }) 1) self.old self.new) }
     {
         let cell = self.sparse.get(&cluster).copied().unwrap_or(0);
-        let more = with_use(cell, kind).ok_or(Fault::NoMemory)?;
+        let more = with_uses(cell, kind, times).ok_or(Fault::NoMemory)?;
         self.sparse.insert(cluster, more)?;
         if self.sparse.len() > self.most {
             if let Some((last, _)) = self.sparse.pop_last() {

@@ -9,6 +9,7 @@ ghost use Rattle.qcow2_metadata.specs.Table.{IsEntryFault};
 ghost use Rattle.qcow2_check.specs.Counters.{IsCountedEnd};
 ghost use Rattle.qcow2_check.specs.Findings.{CountsAll};
 ghost use Rattle.qcow2_check.specs.Flags.{KeepsMarks};
+ghost use Rattle.qcow2_check.specs.Repeats.{AreTimesOf, table_names};
 ghost use Rattle.qcow2_check.specs.Uses.{all_load};
 ghost use Rattle.qcow2_check.specs.Windows.{IsWindow, cell_bytes, most_cell_bytes};
 
@@ -16,6 +17,7 @@ use crate::counters::counted_end;
 use crate::counting::{count_image, most_uses};
 use crate::flags::Marks;
 use crate::image_tables::ImageTables;
+use crate::repeats::Repeats;
 use crate::soles::most_mark_bytes;
 use crate::tally::Tally;
 use qcow2_base::{Fault, MAX_FILE_LENGTH, Storage};
@@ -85,8 +87,8 @@ impl Windows {
         }
     }
 
-    // The window that begins with a cluster.
-    fn at(&self, first: u64) -> Window
+    // The window that begins with a cluster, given how many bytes more lie beside the cells.
+    fn at(&self, first: u64, more: usize) -> Window
         requires { first < max_file_length }
         ensures { IsWindow self.now first result }
     {
@@ -95,7 +97,8 @@ impl Windows {
             (FEW_CELLS, MOST_SPARSE)
         } else {
             let counted = self.counted.saturating_sub(first);
-            let room = MOST_BYTES - self.beside.min(MOST_BYTES / 2);
+            let beside = self.beside.saturating_add(more);
+            let room = MOST_BYTES - beside.min(MOST_BYTES / 2);
             (dense_cells(counted, room, self.is_wide), 0)
         };
         Window {
@@ -125,20 +128,23 @@ impl Windows {
             × (tally.end ≤ max_file_length)) }
         ensures same { self.new ≡ record self.old { is_sparse = self.new.is_sparse } }
     {
+        let repeats = Repeats::new(tables.l1_table)?;
         let mut marks = Marks::none(tables.l1_table.allocator());
-        self.count_and_mark(image, tables, first, &mut marks)
+        self.count_and_mark(image, tables, &repeats, first, &mut marks)
     }
 
     /// Counts as `count` does, and notes which of the first L1 entries have no wrong flag, nor their L2
-    /// tables.
+    /// tables. `repeats` must be those of the L1 table.
     pub(crate) fn count_and_mark<S: Storage>(
         &mut self,
         image: &mut S,
         tables: &ImageTables<'_>,
+        repeats: &Repeats,
         first: u64,
         marks: &mut Marks,
     ) -> Result<Tally, Fault>
-        requires { first < max_file_length }
+        requires first { first < max_file_length }
+        requires repeats { AreTimesOf (table_names tables.now.l1) repeats.now }
         ensures reads { Reads (λ _. tt) result (all_load (geometry_of tables.now.header) tables.now.l1)
             IsEntryFault (S.state image.old) (S.state image.new) }
         ensures counted { IfOk result (λ tally. OnImage (S.state image.old) (λ bytes.
@@ -156,10 +162,10 @@ impl Windows {
             dense,
             most,
             is_wide,
-        } = self.at(first);
+        } = self.at(first, repeats.bytes());
         let alloc = tables.l1_table.allocator();
         let mut tally = Tally::new(alloc, first, dense, most, is_wide)?;
-        count_image(&mut tally, marks, image, tables)?;
+        count_image(&mut tally, marks, image, tables, repeats)?;
         prove!(first < tally.end());
         // Counting the cells takes long, so do it only if there are later windows.
         self.is_sparse |= tally.end() < MAX_FILE_LENGTH && tally.used() < MOST_SPARSE;

@@ -15,6 +15,8 @@ mod refused_calls;
 #[cfg(test)]
 mod repair;
 #[cfg(test)]
+mod repeats;
+#[cfg(test)]
 mod sample_image;
 #[cfg(test)]
 mod uses;

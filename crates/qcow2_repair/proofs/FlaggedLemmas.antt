@@ -1,4 +1,4 @@
-use Rattle.std.proofs.Common.{◌≡◌, ℕ, zero, suc, false, ◌+◌, ◌<◌, List, [], ◌∷◌, ◌++◌, flat_map, slice_index, Option, Some, None, refl, arith}
+use Rattle.std.proofs.Common.{◌≡◌, ℕ, zero, suc, true, false, if◌then◌else◌, ◌+◌, ◌<◌, List, [], ◌∷◌, ◌++◌, flat_map, slice_index, Option, Some, None, refl, arith}
 use Rattle.std.proofs.lemmas.Bool.Decides.{nat_tests}
 use Rattle.std.proofs.lemmas.List.Elements.{All-append, All-cons, All-nil}
 use Rattle.std.proofs.lemmas.List.Sums.{sum_by-append}
@@ -12,8 +12,9 @@ use Rattle.qcow2_metadata.specs.Placed.{numbers_at}
 use Rattle.qcow2_metadata.specs.Table.{l2_layout}
 use Rattle.qcow2_check.proofs.FindingsLemmas.{all-cons}
 use Rattle.qcow2_check.specs.Counters.{counter_of}
-use Rattle.qcow2_check.specs.Flags.{flagged_cluster, image_flags, l1_flag, l1_flags, l2_flag, l2_flags, table_flags}
+use Rattle.qcow2_check.specs.Flags.{first_flags, flagged_cluster, image_flags, l1_flag, l1_flags, l2_flag, l2_flags, table_flags}
 use Rattle.qcow2_check.specs.NamedTables.{named_cluster}
+use Rattle.qcow2_check.specs.Repeats.{is_again, table_names}
 use Rattle.qcow2_check.specs.Tally.{ClusterUse, used_clusters}
 use Rattle.qcow2_check.specs.Uses.{ImageTables, block_uses, entry_uses, header_uses, image_uses, l1_entry_uses, table_uses, uses_of}
 use Rattle.qcow2_check.specs.declared.flags.WrongFlag.{WrongFlag}
@@ -95,21 +96,34 @@ table-flags-all P header reftable image index v None names each = rw (names, tab
 table-flags-all P header reftable image index v (Some table) names each =
     rw (names, table_flags) (l2-flags-all P header reftable image _ (l2_in header table image) (λ k at flag. each table k at flag refl))
 
-l1-flags-all : (P : WrongFlag → Type 0) (header : HeaderRecord) (reftable : List ℕ) (image : Image) (index : ℕ) (vs : List ℕ)
-    → ((k at : ℕ) (flag : WrongFlag) → l1_flag header reftable image at (slice_index vs k) ≡ Some flag → P flag)
-    → ((i : ℕ) (table : HostCluster) (k at : ℕ) (flag : WrongFlag) → named_cluster header.v2.cluster_bits (slice_index vs i) ≡ Some table
-    → l2_flag (geometry_of header) (counter_of header reftable image) at (slice_index (l2_in header table image) k) ≡ Some flag → P flag) → All P (l1_flags header reftable image index vs)
-l1-flags-all P header reftable image index [] one other = All-nil P
-l1-flags-all P header reftable image index (v ∷ vs) one other =
-    All-append P (option_to_list (l1_flag header reftable image index v) ++ table_flags header reftable image index v) (l1_flags header reftable image (index + 1) vs)
-    (All-append P (option_to_list (l1_flag header reftable image index v)) (table_flags header reftable image index v)
-    (found-all P (l1_flag header reftable image index v) (one 0 index))
-    (table-flags-all P header reftable image index v (named_cluster header.v2.cluster_bits v) refl (λ table k at flag names. other 0 table k at flag names)))
-    (l1-flags-all P header reftable image (index + 1) vs (λ k. one (suc k)) (λ i. other (suc i)))
+first-flags-all : (P : WrongFlag → Type 0) (tables : ImageTables) (image : Image) (index v : ℕ)
+    → All P (table_flags tables.header tables.reftable image index v) → All P (first_flags tables image index v)
+first-flags-all P tables image index v all = elim (is_again (table_names tables.l1) index)
+    as (λ again. All P (if again then [] else table_flags tables.header tables.reftable image index v)) [
+      | true ↦ All-nil P
+      | false ↦ all
+    ]
+
+l1-flags-all : (P : WrongFlag → Type 0) (tables : ImageTables) (image : Image) (index : ℕ) (vs : List ℕ)
+    → ((k at : ℕ) (flag : WrongFlag) → l1_flag tables.header tables.reftable image at (slice_index vs k) ≡ Some flag → P flag)
+    → ((i : ℕ) (table : HostCluster) (k at : ℕ) (flag : WrongFlag) → named_cluster tables.header.v2.cluster_bits (slice_index vs i) ≡ Some table
+    → l2_flag (geometry_of tables.header) (counter_of tables.header tables.reftable image) at (slice_index (l2_in tables.header table image) k) ≡ Some flag → P flag)
+    → All P (l1_flags tables image index vs)
+l1-flags-all P tables image index [] one other = All-nil P
+l1-flags-all P tables image index (v ∷ vs) one other =
+    let header = tables.header in
+    let own = option_to_list (l1_flag header tables.reftable image index v) in
+    let entries = first_flags tables image index v in
+    All-append P (own ++ entries) (l1_flags tables image (index + 1) vs)
+    (All-append P own entries
+    (found-all P (l1_flag header tables.reftable image index v) (one 0 index))
+    (first-flags-all P tables image index v (table-flags-all P header tables.reftable image index v (named_cluster header.v2.cluster_bits v) refl
+    (λ table k at flag names. other 0 table k at flag names))))
+    (l1-flags-all P tables image (index + 1) vs (λ k. one (suc k)) (λ i. other (suc i)))
 
 pub image-flags-all : (P : WrongFlag → Type 0) (tables : ImageTables) (image : Image)
     → ((k at : ℕ) (flag : WrongFlag) → l1_flag tables.header tables.reftable image at (slice_index tables.l1 k) ≡ Some flag → P flag)
     → ((table : HostCluster) (k at : ℕ) (flag : WrongFlag) → NamesTable tables.header tables.l1 table
     → l2_flag (geometry_of tables.header) (counter_of tables.header tables.reftable image) at (slice_index (l2_in tables.header table image) k) ≡ Some flag → P flag) → All P (image_flags tables image)
 image-flags-all P tables image one other =
-    l1-flags-all P tables.header tables.reftable image 0 tables.l1 one (λ i table k at flag names. other table k at flag (i, names))
+    l1-flags-all P tables image 0 tables.l1 one (λ i table k at flag names. other table k at flag (i, names))

@@ -22,6 +22,8 @@ use Rattle.qcow2_check.specs.Tally.{cell_at}
 use Rattle.qcow2_check.specs.Uses.{all_load, l1_entry_loads}
 use Rattle.qcow2_repair.proofs.RepairLemmas.{entry-loads}
 use Rattle.qcow2_summary.proofs.ClustersLemmas.{other-cluster, table-same}
+use Rattle.qcow2_check.proofs.RepeatedLemmas.{named_earlier}
+use Rattle.qcow2_check.specs.Repeats.{AreTimesOf, table_names, times_at}
 use Rattle.qcow2_repair.specs.Flags.{BreaksOffL2, FlagPassState, IsOutsideL2Tables, NamesTable, PassesL2, TallyPass, l2_due, l2_in, pass_by, passed_l2, with_due}
 
 -- an entry that has the flag stays, and so does one that the flag isn't due to
@@ -163,6 +165,21 @@ some-skip pass l1 index old new none so_far = record {
     | inr more ↦
         let here : k ≡ index = omega (arith, below, more) in
         absurd (none-some table (sym none ∙ (rw here at names)))
+  ];
+  others = so_far.others;
+}
+
+-- or one whose table an entry before it names too
+pub some-again : (pass : FlagPassState) (l1 times : List ℕ) (index : ℕ) (old new : Image) → index < length l1 → AreTimesOf (table_names l1) times
+    → times_at times index ≡ 0 → PassesSome pass l1 index old new → PassesSome pass l1 (index + 1) old new
+some-again pass l1 times index old new within are none so_far = record {
+  between = so_far.between;
+  passed = λ k table below names. elim (cases_lt k index) [
+    | inl less ↦ so_far.passed k table less names
+    | inr more ↦
+        let here : k ≡ index = omega (arith, below, more) in
+        let earlier = named_earlier pass.header.v2.cluster_bits l1 times index table within are none (rw here at names) in
+        so_far.passed earlier.0 table earlier.1 earlier.2
   ];
   others = so_far.others;
 }

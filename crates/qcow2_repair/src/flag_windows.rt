@@ -17,7 +17,7 @@ ghost use Rattle.qcow2_repair.specs.Flags.{BreaksOffFlags, IsL1TableOf, PassesFl
 use crate::flags::FlagPass;
 use crate::kept_tally::KeptTally;
 use qcow2_base::{Device, Fault, Storage};
-use qcow2_check::{ImageTables, counted_end};
+use qcow2_check::{ImageTables, Repeats, counted_end};
 use qcow2_metadata::{Header, L1Table, RefTable, Table};
 
 // Writes the L1 table if it is modified.
@@ -90,8 +90,9 @@ fn pass_window<S: Storage>(
         flag,
     };
     pass.pass_l1(l1_table);
+    let repeats = Repeats::new(l1_table)?;
     write_l1_table(image, header, l1_table)?;
-    pass.pass_tables(image, l1_table)?;
+    pass.pass_tables(image, l1_table, &repeats)?;
     Ok(tally.end())
 }
 

@@ -1,20 +1,21 @@
 //! A repair's pass over copied flags: it clears those that are wrongly set, or sets those that are wrongly
 //! clear, by the references to the clusters that entries name.
 
-ghost use Rattle.std.specs.Prelude.{◌≡◌, ℕ, ◌⊎◌, ◌+◌, ◌<◌, ◌≤◌, IfErr, IsTrue, MatchResult, Ok, OnOk, Some, false, length, map, slice_index, slice_set, true};
+ghost use Rattle.std.specs.Prelude.{◌≡◌, ℕ, ◌⊎◌, ◌+◌, ◌<◌, ◌≤◌, IfErr, IsTrue, IfSome, MatchResult, None, Ok, OnOk, Some, false, length, map, slice_index, slice_set, true};
 ghost use Rattle.qcow2_base.specs.Storage.{OnImage, OnImages, OnlyWrites};
 ghost use Rattle.qcow2_metadata.specs.Header.{geometry_of};
 ghost use Rattle.qcow2_metadata.specs.Placed.{offset_of};
 ghost use Rattle.qcow2_metadata.specs.Table.{l2_layout, loaded_l2_table};
 ghost use Rattle.qcow2_check.specs.Findings.{IsLaterFault};
-ghost use Rattle.qcow2_check.specs.NamedTables.{IsInImage};
+ghost use Rattle.qcow2_check.specs.NamedTables.{IsInImage, named_cluster};
 ghost use Rattle.qcow2_check.specs.Uses.{all_load};
 ghost use Rattle.qcow2_check.specs.Failures.{ReportsFailures};
+ghost use Rattle.qcow2_check.specs.Repeats.{AreTimesOf, table_names, times_at};
 ghost use Rattle.qcow2_repair.specs.Flags.{BreaksOffL2, PassesL2, due_flag, l1_due, l2_due, l2_in, pass_by, passed_l1, passed_l2};
 
 use qcow2_base::{Fault, HostCluster, Storage};
 use qcow2_check::{
-    Tally, count_of, flagged_cluster, load_l2_table, named_block, named_cluster, row_at,
+    Repeats, Tally, count_of, flagged_cluster, load_l2_table, named_block, named_cluster, row_at,
 };
 use qcow2_metadata::{Header, L1Table, L2Entry, L2Table, RefTable, Table, TableEntry};
 use std::alloc::Global;
@@ -48,6 +49,21 @@ impl<'a> Model for FlagPass<'a> {
     } };
 
     ghost invariant = { λ p. p.reftable.now.geometry ≡ geometry_of p.header.now };
+}
+
+// The cluster of the L2 table that an L1 entry names, unless an entry before it names that table too.
+fn first_named(l1_table: &L1Table, repeats: &Repeats, index: usize) -> Option<HostCluster>
+    ensures named { IfSome result (λ cluster. let cb = l1_table.now.geometry.cluster_bits in
+        named_cluster cb (slice_index l1_table.now.numbers index) ≡ Some cluster) }
+    ensures none { result ≡ None → let cb = l1_table.now.geometry.cluster_bits in
+        (named_cluster cb (slice_index l1_table.now.numbers index) ≡ None)
+        ⊎ (times_at repeats.now index ≡ 0) }
+    ensures end { IfSome result (IsInImage l1_table.now.geometry.cluster_bits) }
+{
+    if repeats.times(index) == 0 {
+        return None;
+    }
+    named_cluster(l1_table, index)
 }
 
 impl FlagPass<'_> {
@@ -233,13 +249,16 @@ impl FlagPass<'_> {
         table.write_if_modified(image, cluster)
     }
 
-    /// Gives the entries of all L2 tables that an L1 table names the pass's flag if they need it.
+    /// Gives the entries of all L2 tables that an L1 table with these repeats names the pass's flag if they
+    /// need it. Loads each table once.
     pub(crate) fn pass_tables<S: Storage>(
         &self,
         image: &mut S,
         l1_table: &L1Table,
+        repeats: &Repeats,
     ) -> Result<(), Fault>
         requires geometry { l1_table.now.geometry ≡ geometry_of self.now.header }
+        requires repeats { AreTimesOf (table_names l1_table.now.numbers) repeats.now }
         requires loads { OnImage (S.state image.old) (λ bytes.
             all_load (geometry_of self.now.header) l1_table.now.numbers bytes ≡ Ok tt) }
         ensures passed { OnImages (S.state image.old) (S.state image.new) (λ before after. MatchResult result
@@ -249,7 +268,7 @@ impl FlagPass<'_> {
         ensures storage { ReportsFailures result (S.state image.old) (S.state image.new) }
     {
         for index in 0..l1_table.entries() {
-            if let Some(cluster) = named_cluster(l1_table, index) {
+            if let Some(cluster) = first_named(l1_table, repeats, index) {
                 self.pass_table(image, l1_table.allocator(), cluster)?;
             }
         }

@@ -9,7 +9,7 @@ use Rattle.qcow2_base.specs.declared.fault.Fault.{Fault}
 use Rattle.qcow2_base.specs.declared.fault.Fault.TheVariants.{NoMemory, Storage}
 use Rattle.qcow2_check.proofs.TotalsLemmas.{items-more, known-before}
 use Rattle.qcow2_check.specs.Findings.{FindingsState, checked_tables, image_findings, tables_of}
-use Rattle.qcow2_check.specs.Totals.{finding_totals, with_flags}
+use Rattle.qcow2_check.specs.Totals.{finding_totals, totals_on, verdict_in, with_flags}
 use Rattle.qcow2_check.specs.Uses.{ImageTables}
 use Rattle.qcow2_check.specs.declared.flags.WrongFlag.{WrongFlag}
 use Rattle.qcow2_repair.proofs.CheckableLemmas.{checkable-repaired}
@@ -113,6 +113,16 @@ totals-mean first last tables flags old mid new tells bytes later_tells later_by
     known-before (λ image. last ≡ with_flags first (flags image)) old mid tells bytes other known
     ∙ ap (λ t. with_flags t (flags old.byte_at)) (one known) in
     subst (λ image. last ≡ with_flags (finding_totals (image_findings tables image)) (flags image)) (sym (later_bytes ∙ bytes)) both
+
+-- the verdict on totals is that on what they mean
+pub verdict-means : (answer : Result Verdict Fault) (header other : HeaderRecord) (last : Totals) (tables : ImageTables) (old new : StorageState)
+    → other ≡ header → new.tells ≡ old.tells → new.byte_at ≡ old.byte_at
+    → OnImage new (λ bytes. last ≡ totals_on tables bytes) → IfOk answer (λ verdict. verdict ≡ verdict_in header last)
+    → IfOk answer (λ verdict. OnImage old (λ bytes. verdict ≡ verdict_in other (totals_on tables bytes)))
+verdict-means (Ok verdict) header other last tables old new same tells bytes means is = λ told.
+    is ∙ ap (λ h. verdict_in h last) (sym same)
+    ∙ ap (verdict_in other) (means (tells ∙ told) ∙ ap (λ image. totals_on tables image) bytes)
+verdict-means (Err fault) header other last tables old new same tells bytes means is = tt
 
 -- reads and prints that returned a value, and then others
 pub reads_for-twice : {A told : Type 0} (value : A) (a b c : StorageState) → ReadsFor (IsErrOf {T = A} (Ok value) Storage) a b → ReadsFor told b c → ReadsFor told a c

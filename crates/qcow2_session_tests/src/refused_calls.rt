@@ -88,9 +88,9 @@ const ROWS: &[Row] = rows! {
     Row { call: Line("check IMAGE json"), before: LATE_TABLES, calls: 2 + 2 + 2 + 1 + 2 + 3,
         after: LATE_TABLES, printed: LATE_OBJECT, ..ROW },
     // the header; the tables and the image's end; the reads of a check before the flags, and a sync; four
-    // passes, each with a read of the L2 table or the block, and with a sync: the third writes the block, the
-    // fourth the L1 table and the L2 table; and a check
-    Row { call: Line("check IMAGE repair"), before: TO_REPAIR, calls: 2 + 3 + 4 + 1 + 2 + 2 + 3 + 4 + 4,
+    // passes, each with a read of the L2 table or the block, and with a sync: the third reads the block again
+    // and writes what has changed, the fourth writes the L1 table and the L2 table; and a check
+    Row { call: Line("check IMAGE repair"), before: TO_REPAIR, calls: 2 + 3 + 4 + 1 + 2 + 2 + 4 + 4 + 4,
         after: REPAIRED, printed: "consistent\n", again: "consistent\n", ..ROW },
     Row { call: Line("l2 IMAGE 9 2"), calls: 1, printed: "3 data 0xa00 copied\n", ..ROW },
     // an edit and a count end with a sync

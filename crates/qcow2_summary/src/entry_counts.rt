@@ -1,7 +1,7 @@
 //! The number of guest clusters that an image's L2 entries map, and how many of them are compressed or
 //! fragmented.
 
-ghost use Rattle.std.specs.Prelude.{◌≡◌, ◌+◌, ◌<◌, ◌≤◌, ◌^◌, ◌==◌, IfOk, IsOkUnless, Option, Some, None, length, not, slice_index};
+ghost use Rattle.std.specs.Prelude.{◌≡◌, ◌+◌, ◌<◌, ◌≤◌, ◌*◌, ◌^◌, ◌==◌, IfOk, IsOkUnless, Option, Some, None, length, not, slice_index};
 ghost use Rattle.qcow2_base.specs.Storage.{OnImage};
 ghost use Rattle.qcow2_base.specs.declared.fault.Fault.TheVariants.{NoMemory};
 ghost use Rattle.qcow2_metadata.specs.Header.{geometry_of};
@@ -9,10 +9,11 @@ ghost use Rattle.qcow2_metadata.specs.Results.{Reads, result_map};
 ghost use Rattle.qcow2_metadata.specs.Table.{IsEntryFault, IsTableFault};
 ghost use Rattle.qcow2_summary.specs.EntryCounts.{counted_entries, counted_tables, is_apart, l1_entry_counts, no_entries, table_counts};
 ghost use Rattle.qcow2_check.specs.NamedTables.{l1_cluster, l1_layout};
+ghost use Rattle.qcow2_check.specs.Repeats.{AreTimesOf, table_names};
 ghost use Rattle.qcow2_check.specs.Uses.{l1_entry_loads};
 
 use qcow2_base::{Fault, HostCluster, Storage};
-use qcow2_check::{flagged_cluster, load_l1_table, load_l2_table, named_cluster};
+use qcow2_check::{Repeats, flagged_cluster, load_l1_table, load_l2_table, named_cluster};
 use qcow2_metadata::{Header, L1Table, L2Table, Table};
 use std::alloc::Global;
 
@@ -34,6 +35,14 @@ fn sum(total: u64, more: u64) -> Result<u64, Fault>
     ensures sum { IfOk result (λ sum. sum ≡ total + more) }
 {
     total.checked_add(more).ok_or(Fault::NoMemory)
+}
+
+// A number that many times over. No image has enough entries to overflow it.
+fn product(times: u32, number: u64) -> Result<u64, Fault>
+    ensures fault { IsOkUnless result NoMemory }
+    ensures product { IfOk result (λ product. product ≡ times * number) }
+{
+    u64::from(times).checked_mul(number).ok_or(Fault::NoMemory)
 }
 
 impl EntryCounts {
@@ -63,6 +72,22 @@ impl EntryCounts {
             fragmented: sum(self.fragmented, more.fragmented)?,
         })
     }
+}
+
+// These counts that many times over.
+fn counts_times(counts: EntryCounts, times: u32) -> Result<EntryCounts, Fault>
+    ensures fault { IsOkUnless result NoMemory }
+    ensures products { IfOk result (λ more. more ≡ record {
+      allocated = times * counts.allocated;
+      compressed = times * counts.compressed;
+      fragmented = times * counts.fragmented;
+    }) }
+{
+    Ok(EntryCounts {
+        allocated: product(times, counts.allocated)?,
+        compressed: product(times, counts.compressed)?,
+        fragmented: product(times, counts.fragmented)?,
+    })
 }
 
 // Whether a cluster doesn't follow the last one. False if there is no last one.
@@ -119,19 +144,25 @@ fn count_l1_entry<S: Storage>(
     Ok(count_table(&table))
 }
 
-// Counts the entries of all L2 tables that an L1 table names.
+// Counts the entries of all L2 tables that an L1 table with these repeats names. Reads each table once.
 fn count_tables<S: Storage>(
     image: &mut S,
     header: &Header,
     l1_table: &L1Table,
+    repeats: &Repeats,
 ) -> Result<EntryCounts, Fault>
-    requires { l1_table.now.geometry ≡ geometry_of header.now }
+    requires geometry { l1_table.now.geometry ≡ geometry_of header.now }
+    requires repeats { AreTimesOf (table_names l1_table.now.numbers) repeats.now }
     ensures { Reads (λ counts. counts) result (counted_tables (geometry_of header.now) l1_table.now.numbers)
         IsEntryFault (S.state image.old) (S.state image.new) }
 {
     let mut counts = EntryCounts::new();
     for index in 0..l1_table.entries() {
-        counts = counts.plus(count_l1_entry(image, header, l1_table, index)?)?;
+        let times = repeats.times(index);
+        if times > 0 {
+            let more = count_l1_entry(image, header, l1_table, index)?;
+            counts = counts.plus(counts_times(more, times)?)?;
+        }
     }
     Ok(counts)
 }
@@ -150,5 +181,6 @@ pub fn count_entries<S: Storage>(
         (S.state image.old) (S.state image.new) }
 {
     let l1_table = load_l1_table(alloc, image, header)?;
-    count_tables(image, header, &l1_table)
+    let repeats = Repeats::new(&l1_table)?;
+    count_tables(image, header, &l1_table, &repeats)
 }

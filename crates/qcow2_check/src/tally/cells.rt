@@ -1,10 +1,10 @@
 //! Consecutive cells in memory, in integers of 32 or 64 bits each.
 
 ghost use Rattle.std.specs.Prelude.{◌≡◌, ◌↔◌, ℕ, ◌+◌, ◌^◌, ◌<◌, ◌≤◌, IfOk, IsTrue, false, length, replicate, slice_index, slice_set};
-ghost use Rattle.qcow2_check.specs.Tally.{IsPlain, with_use};
+ghost use Rattle.qcow2_check.specs.Tally.{IsPlain, with_use, with_uses};
 ghost use Rattle.qcow2_check.specs.Tally.Cells.{AddsGroup, kept_cells};
 
-use super::{TallyKind, with_use_if};
+use super::{TallyKind, with_use_if, with_uses};
 use crate::groups::TOGETHER;
 use std::alloc::{AllocError, Global};
 
@@ -133,6 +133,29 @@ impl Cells {
                 };
                 list[index] = cell;
             }
+        }
+        true
+    }
+
+    // Counts `times` references in a cell. Returns false and changes nothing if the count doesn't fit.
+    pub(super) fn add(&mut self, index: usize, kind: TallyKind, times: u32) -> bool
+        requires { index < length (kept_cells self.old) }
+        ensures counted { IsTrue result → kept_cells self.new ≡ slice_set (kept_cells self.old) index
+            (with_uses kind times (slice_index (kept_cells self.old) index)) }
+        ensures same { result ≡ false → kept_cells self.new ≡ kept_cells self.old }
+        ensures count { length (kept_cells self.new) ≡ length (kept_cells self.old) }
+    {
+        let Some(more) = with_uses(self.get(index), kind, times) else {
+            return false;
+        };
+        match self {
+            Cells::Narrow(list) => {
+                let Ok(cell) = u32::try_from(more) else {
+                    return false;
+                };
+                list[index] = cell;
+            }
+            Cells::Wide(list) => list[index] = more,
         }
         true
     }

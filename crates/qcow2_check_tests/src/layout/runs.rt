@@ -5,7 +5,7 @@ use crate::sample_image::sample_image;
 use qcow2_base::{GuestOffset, HostCluster};
 use qcow2_layout::{Part, Run};
 use qcow2_testing::sample_image::{BLOCK, L1_TABLE, L2_TABLE, LAST, NEXT_ENTRY, REFTABLE};
-use qcow2_testing::{Numbers, each, rows, same};
+use qcow2_testing::{COPIED, Numbers, VERSION_3, each, image_with, rows, same};
 use std::alloc::Global;
 use std::test::Fail;
 
@@ -157,4 +157,32 @@ fn check_all_laid(alloc: Global, row: Laid<'_>) -> Result<(), Fail> {
 #[test]
 fn tables_win_over_what_else_uses_their_clusters(rt: HostRuntime) -> Result<(), Fail> {
     each(rt.alloc(), TABLES_FIRST, check_all_laid)
+}
+
+// A disk of 2^32 guest clusters of 2 MiB. Its last two are the data in host clusters 5 and 6.
+const MANY_CLUSTERS: Numbers<'static> = &[
+    (0, VERSION_3),
+    (16, 21),
+    (24, 1 << 53),
+    (32, 1 << 14),
+    (40, 1 << 21),
+    (48, 2 << 21),
+    (56, 1 << 32),
+    (96, 0x0000_0004_0000_0068),
+    ((1 << 21) + 8 * 16383, COPIED | 4 << 21),
+    (2 << 21, 3 << 21),
+    (3 << 21, 0x0001_0001_0001_0001),
+    ((3 << 21) + 8, 0x0001_0001_0001_0000),
+    ((4 << 21) + 8 * 262142, COPIED | 5 << 21),
+    ((4 << 21) + 8 * 262143, COPIED | 6 << 21),
+];
+
+#[test]
+fn a_disk_of_2_to_the_32_clusters_has_a_layout(rt: HostRuntime) -> Result<(), Fail> {
+    let mut image = image_with(rt.alloc(), 7 << 21, MANY_CLUSTERS)?;
+    let found = runs_of(rt.alloc(), &mut image)?;
+    let expected = runs! { 0 + 1 Part::Header, 1 + 1 Part::L1Table, 2 + 1 Part::RefcountTable,
+        3 + 1 Part::RefcountBlock, 4 + 1 Part::L2Table,
+        5 + 2 Part::Data(GuestOffset((1 << 53) - (2 << 21))) };
+    same(found.as_slice(), expected, "the last guest clusters")
 }

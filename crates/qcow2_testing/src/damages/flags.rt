@@ -118,11 +118,10 @@ const OTHERS: &[Damage] = rows! {
         changes: counted! { LARGER, TWO_TABLES, (NEXT_TABLE, L2_TABLE), DATA },
         clusters: found! { 2 counter 1 uses 2 shared false, 5 counter 1 uses 2 shared false },
         flags: wrong! {
-            offset 0x600 cluster 5 set false counter Some(1), l1 1 cluster 2 set false counter Some(1),
-            offset 0x8600 cluster 5 set false counter Some(1)
+            offset 0x600 cluster 5 set false counter Some(1), l1 1 cluster 2 set false counter Some(1)
         },
-        lines: "missing 2 1 1 2\nmissing 5 1 1 2\nlate 0x600 5 1\nlate l1 1 2 1\nlate 0x8600 5 1\n\
-            leaked 0 missing 2 shared 0 false 0 late 3\n",
+        lines: "missing 2 1 1 2\nmissing 5 1 1 2\nlate 0x600 5 1\nlate l1 1 2 1\n\
+            leaked 0 missing 2 shared 0 false 0 late 2\n",
         sizes: Sizes { clusters: 128, allocated: 2, ..SIZES }, ..DAMAGE },
     Damage { name: "a table after an entry that names none",
         changes: counted! { LARGER, TWO_TABLES, (TABLE_ENTRY, 0), (NEXT_TABLE, COPIED + L2_TABLE), DATA },

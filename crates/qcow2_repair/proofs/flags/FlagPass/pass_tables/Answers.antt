@@ -1,6 +1,6 @@
-use Rattle.std.proofs.Common.{IsTrue, rules}
+use Rattle.std.proofs.Common.{IsTrue, inl, inr, refl, rules}
 use Rattle.std.proofs.lemmas.Result.{err_from_is_err_and}
-use Rattle.qcow2_repair.proofs.FlagsLemmas.{ChangesTable, some-loads, some-next, some-skip, some-torn}
+use Rattle.qcow2_repair.proofs.FlagsLemmas.{ChangesTable, some-again, some-loads, some-next, some-skip, some-torn}
 use Rattle.qcow2_repair.specs.Flags.{pass_by}
 use Rattle.qcow2_repair.proofs.flags.FlagPass.pass_tables.Goals.{in-Some+in_ok-pass_table, in_default}
 use Rattle.qcow2_repair.proofs.flags.FlagPass.pass_tables.Goals as goal
@@ -22,7 +22,7 @@ returns-in_err-pass_table-clause-passed g c = λ told.
     (g.S.Storage.state c.loop-index.image).byte_at (g.S.Storage.state c.pass_table.new.image).byte_at change c.in_err-pass_table.ensures.storage.refused (c.loop-index.invariant.passed told))
 
 pub loop-index-preserved : goal.loop-index-preserved
-loop-index-preserved g c = elim c.match-named_cluster.branch [
+loop-index-preserved g c = elim c.match-first_named.branch [
   | in-Some+in_ok-pass_table w ↦ record {
     passed = λ told.
         let known : IsTrue (g.S.Storage.state c.loop-index.image).tells = search rules in
@@ -34,8 +34,12 @@ loop-index-preserved g c = elim c.match-named_cluster.branch [
     storage = rw w.image-is (search rules);
   }
   | in_default w ↦ record {
-    passed = λ told. rw w.image-is (some-skip (pass_by c.args.self.now) c.args.l1_table.now.numbers c.loop-index.index (g.S.Storage.state c.args.image.now).byte_at
-        (g.S.Storage.state c.loop-index.image).byte_at (search rules) (c.loop-index.invariant.passed told));
+    passed = λ told. rw w.image-is (elim (w.in_default.ensures.none refl) [
+      | inl unnamed ↦ some-skip (pass_by c.args.self.now) c.args.l1_table.now.numbers c.loop-index.index (g.S.Storage.state c.args.image.now).byte_at
+          (g.S.Storage.state c.loop-index.image).byte_at (search rules) (c.loop-index.invariant.passed told)
+      | inr again ↦ some-again (pass_by c.args.self.now) c.args.l1_table.now.numbers c.args.repeats.now c.loop-index.index (g.S.Storage.state c.args.image.now).byte_at
+          (g.S.Storage.state c.loop-index.image).byte_at (search rules) c.requires.repeats again (c.loop-index.invariant.passed told)
+    ]);
     storage = rw w.image-is (search rules);
   }
 ]

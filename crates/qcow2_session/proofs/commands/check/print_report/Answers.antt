@@ -4,7 +4,7 @@ use Rattle.qcow2_base.specs.Storage.{Image}
 use Rattle.qcow2_check.specs.Findings.{image_findings, tables_of}
 use Rattle.qcow2_check.specs.Flags.{flags_left, image_flags}
 use Rattle.qcow2_check.specs.Totals.{finding_totals, totals_on, with_flags}
-use Rattle.qcow2_session.proofs.CheckLemmas.{all-begin, lines-as, lines-no_more, lines-then, reads_for-fault, reads_for-twice, runs-begin, text-lines, totals-mean}
+use Rattle.qcow2_session.proofs.CheckLemmas.{all-begin, lines-as, lines-no_more, lines-then, reads_for-fault, reads_for-twice, runs-begin, text-lines, totals-mean, verdict-means}
 use Rattle.qcow2_session.specs.Commands.Check.Lines.{end_lines, flag_line, run_lines}
 use Rattle.qcow2_session.specs.Commands.Check.Runs.{RunsState, runs_of, runs_left}
 use Rattle.qcow2_check.specs.declared.totals.Totals.{Totals}
@@ -84,3 +84,20 @@ returns-clause-prints g c =
     (λ told. ap (λ header. end_lines header c.in_ok-totals-2.totals) (sym c.requires.header) ∙ ap (end_lines tables.header) (means told)) c.print_end.ensures.text in
     lines-then c.in_ok-totals-2.totals c.print_end.result (λ bytes. runs bytes ++ flags bytes) totals contents state now now c.args.out.now c.print_flags.new.out c.print_end.new.out
     (later.device.tells ∙ read.device.tells) (later.bytes ∙ read.bytes) both three
+
+pub returns-clause-verdict : goal.returns-clause-verdict
+returns-clause-verdict g c =
+    let tables = tables_of c.args.findings in
+    let state = g.S.Storage.state c.args.image.now in
+    let mid = g.S.Storage.state c.print_runs.new.image in
+    let now = g.S.Storage.state c.print_flags.new.image in
+    let read = c.in_ok-totals.ensures.storage in
+    let later = c.in_ok-totals-2.ensures.storage in
+    let same : tables_of c.into_findings.result ≡ tables = ap tables_of c.into_findings.ensures ∙ ap tables_of c.in_ok-totals.ensures.reader.same ∙ ap (λ (r : RunsState). tables_of r.findings) c.new-runs.ensures in
+    let begins : flags_left c.into_flags-flags.result mid.byte_at ≡ image_flags tables mid.byte_at = c.into_flags-flags.ensures.left mid.byte_at ∙ ap (λ t. image_flags t mid.byte_at) same in
+    let means = totals-mean c.in_ok-totals.totals c.in_ok-totals-2.totals tables (λ bytes. image_flags tables bytes) state mid now
+    read.device.tells read.bytes later.device.tells later.bytes (λ told. c.in_ok-totals.ensures.totals told
+    ∙ ap finding_totals (all-begin c.new-runs.result c.args.findings state.byte_at c.new-runs.ensures c.requires.begun))
+    (λ told. c.in_ok-totals-2.ensures.totals told ∙ ap (with_flags c.in_ok-totals.totals) begins) in
+    verdict-means c.print_end.result c.args.header.now c.args.findings.header c.in_ok-totals-2.totals tables state now c.requires.header
+    (later.device.tells ∙ read.device.tells) (later.bytes ∙ read.bytes) means c.print_end.ensures.verdict
