@@ -1,3 +1,4 @@
+mod RepeatsExamples
 pub mod CountersLemmas
 pub mod CountingLemmas
 pub mod FailuresLemmas

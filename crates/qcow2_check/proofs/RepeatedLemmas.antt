@@ -149,12 +149,7 @@ repeated_together f times xs a b counts = record {
       (λ kind. flat_repeated kind f times xs c ∙ sym (repeated_kinds kind times (flat_map f xs) c));
 }
 
--- nothing is used however many times
-pub repeated_nothing : (times : ℕ) → repetition {Used = ClusterUse} times [] ≡ []
-repeated_nothing zero = refl
-repeated_nothing (suc times) = repeated_nothing times
-
--- nor by any entry of an image whose guest data lies in an external data file
+-- no entry uses clusters of an image whose guest data lies in an external data file, however often
 pub no_repeated_uses : (g : Geometry) (numbers : List ℕ) (times : ℕ) (tally : TallyState) → g.external_data_file ≡ true
     → CountsMore (repetition times (flat_map (entry_uses g) numbers)) tally tally
 no_repeated_uses g numbers times tally external = rw (no_entry_uses g numbers external) (nothing_counts times tally)

@@ -121,6 +121,3 @@ nothing_counts times tally = rw (none times) (record { first = refl; end = omega
 -- once is no more
 pub once_counts : (uses : List ClusterUse) (a b : TallyState) → CountsMore (repetition 1 uses) a b → CountsMore uses a b
 once_counts uses a b counts = rw (← append-nil uses) counts
-
-pub one_counts : (used : ClusterUse) (a b : TallyState) → CountsTimes 1 used a b → CountsMore (used ∷ []) a b
-one_counts used a b counts = record { first = counts.first; end = counts.end; cells = counts.cells }

@@ -17,7 +17,7 @@ abbrev pub worth_from : (ℕ → ℕ) → (ℕ → ℕ) → ℕ → List ℕ →
 worth_from times worth index [] = 0
 worth_from times worth index (name ∷ names) = times index * worth name + worth_from times worth (index + 1) names
 
--- so often each number of a list counts: one that stands before it too doesn't, and whatever a number is worth, all are worth the
+-- how often each number of a list counts: 0 times if it stands before it too, and whatever a number is worth, all are worth the
 -- same as if each counted once. A number 0 is none, and may count at each place
 pub record AreTimesOf (names times : List ℕ) : Type 0 where
   pub again : (index : ℕ) → index < length names → 0 < slice_index names index → (times_at times index ≡ 0) ↔ (is_again names index ≡ true)

@@ -80,7 +80,7 @@ tables_list tables = header_list tables.header
 abbrev pub guest_list : ImageTables → Image → List Use
 guest_list tables image = list_from (l1_list (geometry_of tables.header) image) 0 tables.l1
 
--- the same, where what the L2 table of each L1 entry refers to counts so often
+-- the same, where what the L2 table of each L1 entry refers to counts that often
 abbrev pub repeated_list : ImageTables → List ℕ → Image → List Use
 repeated_list tables times image =
     list_from (λ index v. repetition (times_at times index) (l1_list (geometry_of tables.header) image index v)) 0 tables.l1

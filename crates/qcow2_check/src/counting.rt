@@ -67,7 +67,7 @@ fn count_entry(
         (repetition times (entry_uses (geometry cluster_bits false) entry)) tally.old tally.new) }
 {
     match entry.allocation(cluster_bits, false) {
-        Some((first, count)) => { count_clusters(tally, TallyKind::Guest, first, count.0, times) }
+        Some((first, count)) => count_clusters(tally, TallyKind::Guest, first, count.0, times),
         None => Ok(()),
     }
 }

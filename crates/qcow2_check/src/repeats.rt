@@ -1,4 +1,4 @@
-//! Offsets that stand more than once in a table, so that what lies there is read only once.
+//! L2 tables that several L1 entries name, so that each is read only once.
 
 ghost use Rattle.std.specs.Prelude.{◌≡◌, ℕ, ◌+◌, ◌*◌, ◌^◌, ◌<◌, ◌≤◌, false, IfOk, IsTrue, length, replicate, slice_index};
 ghost use Rattle.std.specs.List.{range_with_len};
@@ -10,8 +10,8 @@ use qcow2_metadata::{L1Table, Table};
 use std::alloc::{AllocError, Global};
 use std::marker::Model;
 
-/// How often each offset of a list counts, if one that stands there several times counts for all at its first
-/// place. Contracts see these numbers, or none if each counts once.
+/// How often L2 tables count at the L1 entries that name them: at the first of these for all of them, and 0
+/// times at the others. Contracts see a number for each L1 entry, or none at all if each counts once.
 #[derive(Drop)]
 pub struct Repeats {
     times: Vec<u32>,
@@ -114,7 +114,8 @@ impl Repeats {
     ghost use Rattle.qcow2_base.specs.declared.fault.Fault.TheVariants.{NoMemory};
     ghost use Rattle.qcow2_check.specs.Repeats.{AreTimesOf, table_names, times_at};
 
-    /// The counts of the L2 tables that an L1 table names. Takes memory only if their offsets don't ascend.
+    /// The counts of the L2 tables that an L1 table names. Takes memory only if their offsets don't ascend,
+    /// and fails only if it runs out (fault 35).
     pub fn new(l1_table: &L1Table) -> Result<Repeats, Fault>
         requires { length l1_table.now.numbers ≤ most_l1_entries }
         ensures fault { IsOkUnless result NoMemory }
@@ -140,7 +141,8 @@ impl Repeats {
         Ok(Repeats { times })
     }
 
-    /// How often the offset at an index counts: 0 times if it stands before it too.
+    /// How often the L2 table that the L1 entry at an index names counts there: 0 times if an entry before it
+    /// names the table too. Says nothing if the entry names none.
     #[inline]
     pub fn times(&self, index: usize) -> u32
         ensures { result ≡ times_at self.now index }
