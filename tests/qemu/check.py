@@ -72,6 +72,7 @@ class Check:
         self.fixed, self.l2, self.guest = Counter(), Counter(), Counter()
         self.count_references()
         self.references = self.fixed + self.l2 + self.guest
+        self.first_named = {offset: index for index, offset in reversed(self.image.refcount_blocks.items())}
         self.totals, self.text = Counter(), ""
         self.add_cluster_lines()
         for flag in self.flags():
@@ -101,10 +102,16 @@ class Check:
     # The output of a check
 
     def finding(self, cluster):
-        """The refcount of a cluster, the number of its references, and whether it is shared."""
+        """The refcount of a cluster as it is reported, the number of its references, and whether it is shared."""
         references, l2 = self.references[cluster], self.l2[cluster]
         shared = self.fixed[cluster] > 0 and references > 1 or l2 > 0 and l2 != references
-        return self.image.refcount(cluster), references, shared
+        refcount = self.image.refcount(cluster) if references or not self.is_counted_again(cluster) else 0
+        return refcount, references, shared
+
+    def is_counted_again(self, cluster):
+        """Whether an earlier entry of the refcount table names the cluster's refcount block too."""
+        index = cluster // self.header.block_refcounts
+        return index in self.image.refcount_blocks and self.first_named[self.image.refcount_blocks[index]] < index
 
     def add_cluster_lines(self):
         """Adds the lines of clusters, one for clusters in a row with the same finding."""
@@ -226,6 +233,7 @@ class Check:
             "counters past the end": any(cluster >= end for cluster in image.refcounts),
             "past the greatest counter": max(references.values()) > header.greatest_refcount,
             "uses of a block": any(references[offset // size] > 1 for offset in image.refcount_blocks.values()),
+            "refcounts of a block named again": any(map(self.is_counted_again, image.refcounts)),
             "only copied": any(not entry.length for entry in image.l1_table),
             "flags of a table named again": self.has_wrong_flags_again(),
             "compressed data outside": header.is_external and any(compressed),

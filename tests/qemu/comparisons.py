@@ -27,6 +27,7 @@ COUNTED_OTHERWISE = {
     "counters past the end": {"image-end-offset", "leaks"},
     "past the greatest counter": {"corruptions"},
     "uses of a block": {"corruptions"},
+    "refcounts of a block named again": {"leaks"},
     "only copied": {"image-end-offset", "corruptions", "leaks", *ENTRY_COUNTS},
     "flags of a table named again": {"corruptions"},
     "compressed data outside": {"corruptions", *ENTRY_COUNTS},

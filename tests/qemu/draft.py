@@ -346,13 +346,21 @@ def point_block(draft):
     draft.refcount_table[index] = draft.any_cluster() * draft.cluster_size
 
 
+def repeat_block(draft):
+    """Names a refcount block twice."""
+    slot = draft.any_slot([draft.refcount_table])
+    if slot:
+        draft.refcount_table[len(draft.refcount_table) + draft.chance.randrange(2)] = slot.table[slot.index]
+
+
 def cut_file(draft):
     """Cuts sectors from the last cluster."""
     draft.length -= SECTOR * draft.chance.randrange(draft.cluster_size // SECTOR)
 
 
 DAMAGES = [raise_counter, lower_counter, fill_counter, raise_counters_in_a_row, turn_flag, point_entry, compress_entry]
-DAMAGES += [drop_entry, repeat_table, point_table, flag_no_table, drop_block, point_block, cut_file]
+DAMAGES += [drop_entry, repeat_table, point_table, flag_no_table, drop_block, point_block]
+DAMAGES += [repeat_block, cut_file]
 
 
 def damaged_draft(chance):

@@ -183,17 +183,18 @@ def header_alone(path, length):
 
 
 class Case(NamedTuple):
-    """A hostile file: its name, the timed commands, and its maker with its arguments."""
+    """A hostile file: its name, the timed commands, its maker with its arguments, and whether clusters lie far apart."""
 
     name: str
     commands: tuple
     maker: Callable
     words: tuple
+    is_apart: bool = False
 
     def write(self, path):
         """Writes the file, and returns its measures."""
-        return measures(path, self.maker(path, *self.words))
-
+        mapped = self.maker(path, *self.words)
+        return measures(path, mapped)._replace(apart=mapped if self.is_apart else 0)
 
 READERS = ("check", "check json", "layout", "list", "map", "repair")
 
@@ -208,10 +209,10 @@ CASES = (
     Case("2048 L2 entries, a block 2048 times", ("apply plan",), entries_by_block, (LARGE, 2048)),
     Case("an empty L2 table, 4096 times", READERS, repeated_table, (LARGE_USUAL, 4096, 0)),
     Case("a full L2 table, 512 times", ("check", "check json", "layout"), repeated_table, (USUAL, 512, 8192)),
-    Case("134 MB of entries far apart", ("check",), entries_apart, (2048, APART)),
+    Case("134 MB of entries far apart", ("check",), entries_apart, (2048, APART), True),
     Case("34 MB of entries over all windows", ("check", "layout"), entries_apart, (512, 16, 128)),
-    Case("34 MB, 3 compressed clusters an entry", ("check",), compressed_apart, (512, 1)),
-    Case("4 MB of these, each table 16 times", ("check",), compressed_apart, (64, 16)),
+    Case("34 MB, 3 compressed clusters an entry", ("check",), compressed_apart, (512, 1), True),
+    Case("4 MB of these, each table 16 times", ("check",), compressed_apart, (64, 16), True),
     Case("4 KiB, longest tables past the end", ("check", "layout", "tables", "list"), header_alone, (4096,)),
 )
 
@@ -220,10 +221,15 @@ CASES = (
 
 
 class Measures(NamedTuple):
-    """The measures that bounds are linear in: T, the bytes of distinct tables and blocks, and U, clusters in use."""
+    """The measures that bounds are linear in: T, the bytes of distinct tables and blocks, and U, clusters in use.
+
+    `apart` of these clusters lie far apart. `named_again` is the bytes of blocks at later entries that name them.
+    """
 
     table_bytes: int
     used: int
+    apart: int
+    named_again: int
 
     @property
     def both(self):
@@ -238,10 +244,11 @@ def measures(path, mapped):
     """
     image = Image(path)
     header, size = image.header, image.header.cluster_size
-    apart = set(image.l2_offsets()) | set(image.refcount_blocks.values())
-    refcount_table = header.refcount_table_clusters
-    used = 1 + header.clusters_of(ENTRY_SIZE * header.l1_size) + refcount_table + len(apart) + mapped
-    return Measures(ENTRY_SIZE * header.l1_size + (refcount_table + len(apart)) * size, used)
+    blocks = set(image.refcount_blocks.values())
+    tables, refcount_table = set(image.l2_offsets()) | blocks, header.refcount_table_clusters
+    used = 1 + header.clusters_of(ENTRY_SIZE * header.l1_size) + refcount_table + len(tables) + mapped
+    table_bytes = ENTRY_SIZE * header.l1_size + (refcount_table + len(tables)) * size
+    return Measures(table_bytes, used, 0, (len(image.refcount_blocks) - len(blocks)) * size)
 
 
 def measures_of_whole(path):

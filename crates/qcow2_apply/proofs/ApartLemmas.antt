@@ -7,6 +7,7 @@ use Rattle.qcow2_base.specs.Storage.{Image}
 use Rattle.qcow2_base.specs.declared.types.HostCluster.{HostCluster}
 use Rattle.qcow2_metadata.specs.Header.{geometry_of}
 use Rattle.qcow2_summary.proofs.ApartLemmas.{first-used, kind-append, named-below, named-used}
+use Rattle.qcow2_summary.proofs.ReportedLemmas.{AreUnshared, once-used, right-unshared, twice-used}
 use Rattle.qcow2_check.proofs.FindingsLemmas.{excludes, kind-cons, uses_by_kind}
 use Rattle.qcow2_check.specs.Counters.{blocks_fault}
 use Rattle.qcow2_check.specs.Findings.{AreRight, is_shared, uses_of_kind}
@@ -18,39 +19,6 @@ use Rattle.qcow2_apply.proofs.CounterTablesLemmas.{place-at}
 use Rattle.qcow2_apply.specs.Apply.{AreAllApart, l2_tables_of, refblocks_of}
 use Rattle.qcow2_apply.specs.Passes.{ArePlacesApart}
 use Rattle.qcow2_apply.specs.PlannedTables.{counter_tables}
-
--- a refcount table entry uses the block that it names
-entry-uses : (cb v : ℕ) (block : HostCluster) → named_block cb v ≡ Some block → uses_of_kind Fixed (block_uses cb v) block.0 ≡ 1
-entry-uses cb v block names =
-    ap (λ found. uses_of_kind Fixed (option_to_list (option_map (λ (cluster : HostCluster). used_clusters Fixed cluster 1) found)) block.0) names
-    ∙ grind (arith, nat_tests, kind-cons Fixed (used_clusters Fixed block 1) [] block.0)
-
--- and so do entries of which one names it
-once-used : (cb : ℕ) (reftable : List ℕ) (k : ℕ) (block : HostCluster) → named_block cb (slice_index reftable k) ≡ Some block
-    → 1 ≤ uses_of_kind Fixed (flat_map (block_uses cb) reftable) block.0
-once-used cb [] k block names = absurd (grind (arith, nat_tests, names))
-once-used cb (v ∷ vs) zero block names = omega (arith, kind-append Fixed (block_uses cb v) (flat_map (block_uses cb) vs) block.0, entry-uses cb v block names)
-once-used cb (v ∷ vs) (suc k) block names =
-    omega (arith, kind-append Fixed (block_uses cb v) (flat_map (block_uses cb) vs) block.0, once-used cb vs k block names)
-
--- twice, where two name it
-twice-used : (cb : ℕ) (reftable : List ℕ) (i j : ℕ) (block : HostCluster) → i < j → named_block cb (slice_index reftable i) ≡ Some block
-    → named_block cb (slice_index reftable j) ≡ Some block → 2 ≤ uses_of_kind Fixed (flat_map (block_uses cb) reftable) block.0
-twice-used cb [] i j block less first second = absurd (grind (arith, nat_tests, first))
-twice-used cb (v ∷ vs) zero zero block less first second = absurd (omega (arith, less))
-twice-used cb (v ∷ vs) zero (suc j) block less first second =
-    omega (arith, kind-append Fixed (block_uses cb v) (flat_map (block_uses cb) vs) block.0, entry-uses cb v block first, once-used cb vs j block second)
-twice-used cb (v ∷ vs) (suc i) zero block less first second = absurd (omega (arith, less))
-twice-used cb (v ∷ vs) (suc i) (suc j) block less first second =
-    omega (arith, kind-append Fixed (block_uses cb v) (flat_map (block_uses cb) vs) block.0, twice-used cb vs i j block (omega (arith, less)) first second)
-
--- no cluster of an image has uses that exclude each other
-abbrev pub AreUnshared : ImageTables → Image → Type 0
-AreUnshared tables image = (c : ℕ) → c < max_file_length → is_shared (image_uses tables image) c ≡ false
-
--- so it is where nothing is found
-pub right-unshared : (tables : ImageTables) (image : Image) → AreRight tables image 0 max_file_length → AreUnshared tables image
-right-unshared tables image right = λ c below. grind (arith, nat_tests, right c (omega arith) below)
 
 -- then a cluster has one use at most that is of its header or of a block, and none beside an L2 table's
 pub fixed-once : (tables : ImageTables) (image : Image) (c : ℕ) → AreUnshared tables image → c < max_file_length

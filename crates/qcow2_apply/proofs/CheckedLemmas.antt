@@ -31,7 +31,8 @@ use Rattle.qcow2_check.specs.Findings.{checked_tables, uses_of_kind}
 use Rattle.qcow2_check.specs.NamedTables.{l1_cluster, l1_layout, loaded_l1_table, loaded_reftable, named_cluster, reftable_cluster, reftable_layout}
 use Rattle.qcow2_check.specs.Uses.{ImageTables, all_load, header_uses, l1_entry_loads}
 use Rattle.qcow2_check.specs.declared.tally.TallyKind.TheVariants.{Fixed}
-use Rattle.qcow2_apply.proofs.ApartLemmas.{AreUnshared, apart-unshared, block-unshared, fixed-once, table-unshared}
+use Rattle.qcow2_summary.proofs.ReportedLemmas.{AreUnshared}
+use Rattle.qcow2_apply.proofs.ApartLemmas.{apart-unshared, block-unshared, fixed-once, table-unshared}
 use Rattle.qcow2_apply.proofs.ApplyLemmas.{after-field, are-planned, table-left}
 use Rattle.qcow2_apply.proofs.ErrorsLemmas.{AreDone, findings-all, no-error-at, no-leak-at, no-leaks}
 use Rattle.qcow2_apply.proofs.FalseFlagsLemmas.{CanBe, can-be, no-errors}

@@ -14,10 +14,11 @@ use Rattle.qcow2_metadata.specs.Table.{l2_layout}
 use Rattle.qcow2_metadata.specs.Table.L2Guards.{one_if}
 use Rattle.qcow2_metadata.specs.declared.entries.ClustersToFreeEntry.{ClustersToFreeEntry}
 use Rattle.qcow2_summary.proofs.ApartLemmas.{kind-append}
+use Rattle.qcow2_summary.proofs.ReportedLemmas.{once-reported, unshared-reported}
 use Rattle.qcow2_check.proofs.FindingsLemmas.{excludes, kind-cons, uses_by_kind}
 use Rattle.qcow2_check.proofs.FindingsListLemmas.{no-more, pass-one, take-one}
 use Rattle.qcow2_check.specs.Counters.{block_of_cluster, counter_of}
-use Rattle.qcow2_check.specs.Findings.{finding_at, findings_from, image_findings, is_shared, is_wrong, uses_of_kind}
+use Rattle.qcow2_check.specs.Findings.{finding_at, findings_from, image_findings, is_shared, is_wrong, reported_counter, uses_of_kind}
 use Rattle.qcow2_check.specs.NamedTables.{named_cluster}
 use Rattle.qcow2_check.specs.Tally.{ClusterUse, mark_of, used_clusters}
 use Rattle.qcow2_check.specs.Uses.{ImageTables, block_uses, entry_uses, header_uses, image_uses, l1_entry_uses, table_uses, uses_of}
@@ -163,6 +164,18 @@ no-error-at tables image none c below = each-at IsNoError tables image fine-no-e
 pub no-leak-at : (tables : ImageTables) (image : Image) → HasNoLeaks tables image → (c : ℕ) → c < max_file_length → IsNoLeak (finding_at tables image c)
 no-leak-at tables image none c below = each-at IsNoLeak tables image fine-no-leak none c below
 
+-- tables that are all apart name no block twice
+pub apart-reported : (tables : ImageTables) (image : Image) (c : ℕ) → AreAllApart tables
+    → reported_counter tables image c ≡ counter_of tables.header tables.reftable image c
+apart-reported tables image c apart =
+    once-reported tables image c (λ i j block below less first second. omega (arith, less, apart.blocks_apart i j block first second))
+
+-- and no cluster of an image without errors has a counter below its uses
+pub enough-at : (tables : ImageTables) (image : Image) → HasNoErrors tables image → (c : ℕ) → c < max_file_length
+    → uses_of (image_uses tables image) c ≤ counter_of tables.header tables.reftable image c
+enough-at tables image none c below =
+    omega (arith, (no-error-at tables image none c below).0, unshared-reported tables image c (λ other inside. (no-error-at tables image none other inside).1))
+
 -- edits leak no cluster
 pub no-leaks : (header : HeaderRecord) (edits : List GuestEdit) (plan : Plan) (old new : Image) → AreDone header edits plan old new
     → HasNoLeaks (plan_tables header plan) old → HasNoLeaks (plan_tables header plan) new
@@ -173,11 +186,11 @@ no-leaks header edits plan old new done none = findings-all IsNoLeak tables new 
     tables = plan_tables header plan
 
     at : (c : ℕ) → c < max_file_length → (found : Option HostCluster) → block_of_cluster tables.header tables.reftable c ≡ found → IsNoLeak (finding_at tables new c)
-    at c below None uncounted_is = omega (arith, uncounted tables new c uncounted_is)
+    at c below None uncounted_is = omega (arith, uncounted tables new c uncounted_is, apart-reported tables new c done.apart)
     at c below (Some block) some =
         let before = no-leak-at tables old none c below in
         let counter = (follow-at header edits plan old new c done).counter (grind (arith, some)) in
-        omega (arith, before, counter)
+        omega (arith, before, counter, apart-reported tables old c done.apart, apart-reported tables new c done.apart)
 
 -- L2 entries use clusters for guest data alone
 entry-kind : (kind : TallyKind) (g : Geometry) (v c : ℕ) → (mark_of Guest == mark_of kind) ≡ false → uses_of_kind kind (entry_uses g v) c ≡ 0
@@ -248,17 +261,17 @@ stays-apart old new c fixed tables (inl fewer) apart =
 stays-apart old new c fixed tables (inr none) apart = grind (arith, nat_tests, fixed, tables, none, uses_by_kind old c)
 
 -- a cluster that is neither missing nor shared is neither after edits
-error-free : (tables : ImageTables) (edits : List GuestEdit) (old new : Image) (c : ℕ) → FollowAt tables edits old new c
+error-free : (tables : ImageTables) (edits : List GuestEdit) (old new : Image) (c : ℕ) → FollowAt tables edits old new c → AreAllApart tables
     → IsNoError (finding_at tables old c) → IsNoError (finding_at tables new c)
-error-free tables edits old new c follow none =
-    let enough = none.0 in
+error-free tables edits old new c follow apart none =
+    let enough : uses_of (image_uses tables old) c ≤ counter_of tables.header tables.reftable old c = omega (arith, none.0, apart-reported tables old c apart) in
     let counter = follows-all tables edits old new c follow enough in
     let fewer : (uses_of (image_uses tables new) c ≤ uses_of (image_uses tables old) c) ⊎ (uses_of (image_uses tables old) c ≡ 0) =
     elim (cases_lt 0 (gained_before tables edits old (length tables.l1) c)) [
       | inl some ↦ inr (omega (arith, enough, (follow.free some).free))
       | inr nothing ↦ inl (omega (arith, nothing, follow.uses))
     ] in (
-      omega (arith, counter, enough),
+      omega (arith, counter, enough, apart-reported tables new c apart),
       stays-apart (image_uses tables old) (image_uses tables new) c (image-kind Fixed tables old new c refl) (image-kind L2Table tables old new c refl) fewer none.1,
     )
 
@@ -268,4 +281,4 @@ pub findings-left : (header : HeaderRecord) (edits : List GuestEdit) (plan : Pla
 findings-left header edits plan old new done none =
     let tables = plan_tables header plan in
     findings-all IsNoError tables new 0 max_file_length (λ c after before.
-    error-free tables edits old new c (follow-at header edits plan old new c done) (no-error-at tables old none c (omega (arith, before))))
+    error-free tables edits old new c (follow-at header edits plan old new c done) done.apart (no-error-at tables old none c (omega (arith, before))))

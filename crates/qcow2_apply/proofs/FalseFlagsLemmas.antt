@@ -34,7 +34,7 @@ use Rattle.qcow2_check.specs.declared.flags.FlagPlace.{FlagPlace}
 use Rattle.qcow2_check.specs.declared.flags.WrongFlag.{WrongFlag}
 use Rattle.qcow2_check.specs.declared.tally.TallyKind.TheVariants.{L2Table}
 use Rattle.qcow2_apply.proofs.ApplyLemmas.{can-be-made, table-left}
-use Rattle.qcow2_apply.proofs.ErrorsLemmas.{AreDone, FollowAt, findings-left, follow-at, follows-all, no-error-at}
+use Rattle.qcow2_apply.proofs.ErrorsLemmas.{AreDone, FollowAt, enough-at, findings-left, follow-at, follows-all}
 use Rattle.qcow2_apply.proofs.GainsLemmas.{IsFree, entry_maps, maps-free, maps_in, run_maps}
 use Rattle.qcow2_apply.proofs.TablesLemmas.{edits-made}
 use Rattle.qcow2_apply.specs.Apply.{plan_tables}
@@ -441,7 +441,7 @@ flags-stay : (header : HeaderRecord) (edits : List GuestEdit) (plan : Plan) (old
     → HasNoErrors (plan_tables header plan) old → AreTrue (plan_tables header plan) old → AreTrue (plan_tables header plan) new
 flags-stay header edits plan old new done none were = record {
   l1_entries = λ k cluster names copied. one-stays tables edits old new cluster.0 (follow cluster.0)
-      (no-error-at tables old none cluster.0 (named-below _ _ cluster names)).0 (table-in-use tables old k cluster names)
+      (enough-at tables old none cluster.0 (named-below _ _ cluster names)) (table-in-use tables old k cluster names)
       (table-in-use tables new k cluster names) (were.l1_entries k cluster names copied);
   l2_entries = λ i table k cluster named says. by_edits i table k cluster named says (said i table k cluster named says);
 }
@@ -474,11 +474,11 @@ flags-stay header edits plan old new done none were = record {
         → SaysSole g (slice_index (numbers table new) k) cluster → Said i table k cluster
         → counter_of tables.header tables.reftable new cluster.0 ≡ 1
     by_edits i table k cluster named says (inl before) = one-stays tables edits old new cluster.0 (follow cluster.0)
-        (no-error-at tables old none cluster.0 (flagged-below g (slice_index (numbers table new) k) cluster says.names)).0
+        (enough-at tables old none cluster.0 (flagged-below g (slice_index (numbers table new) k) cluster says.names))
         (flagged-used tables old i table k cluster done.for.no_data_file named before.names)
         (flagged-used tables new i table k cluster done.for.no_data_file named says.names) (were.l2_entries i table k cluster named before)
     by_edits i table k cluster named says (inr maps) = free-rises tables edits old new cluster.0 (follow cluster.0)
-        (no-error-at tables old none cluster.0 (flagged-below g (slice_index (numbers table new) k) cluster says.names)).0
+        (enough-at tables old none cluster.0 (flagged-below g (slice_index (numbers table new) k) cluster says.names))
         (flagged-used tables new i table k cluster done.for.no_data_file named says.names)
         (maps-free tables edits old i cluster.0 table (can-be-made header edits plan old done.of).tables_allow named maps)
 

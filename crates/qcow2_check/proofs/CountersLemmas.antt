@@ -1,10 +1,12 @@
-use Rattle.std.proofs.Common.{◌≡◌, ◌↔◌, ℕ, zero, suc, ◌+◌, ◌-◌, ◌%◌, ◌*◌, ◌/◌, ◌^◌, ◌<◌, ◌≤◌, List, [], ◌∷◌, length, slice_index, take, Option, None, Some, IsSome, IsSomeAnd, inl, inr, refl, sym, ap, ◌∙◌, pow-add, div-add-mod', arith}
+use Rattle.std.proofs.Common.{◌≡◌, ◌↔◌, ◌⊎◌, ℕ, zero, suc, Bool, true, false, ◌+◌, ◌-◌, ◌%◌, ◌*◌, ◌/◌, ◌^◌, ◌<◌, ◌≤◌, List, [], ◌∷◌, length, slice_index, take, Option, None, Some, IsSome, IsSomeAnd, inl, inr, refl, sym, ap, ◌∙◌, pow-add, div-add-mod', arith}
+use Rattle.std.specs.Prelude.{is_some}
 use Rattle.std.proofs.lemmas.Bool.Decides.{nat_tests}
 use Rattle.std.proofs.lemmas.Nat.{div-mul-add, mod_below, pow_pos}
-use Rattle.std.proofs.lemmas.Bool.{cases_lt}
+use Rattle.std.proofs.lemmas.Bool.{cases_eq, cases_lt, true≢false}
 use Rattle.std.proofs.Math.Nat.{add-mul, div-lt_iff_lt-mul, le-div_iff_mul-le, mod-le, mul-div_cancel, one-mul}
 use Rattle.qcow2_metadata.proofs.EntriesLemmas.{div_rises}
 use Rattle.std.proofs.lemmas.List.{get_or_past}
+use Rattle.std.proofs.lemmas.Option.{none-some}
 use Rattle.qcow2_metadata.proofs.TableLemmas.{first_fault-append}
 use Rattle.qcow2_check.proofs.UsesLemmas.{take_more}
 use Rattle.qcow2_base.specs.Format.{max_file_length}
@@ -21,7 +23,8 @@ use Rattle.qcow2_metadata.specs.Refblock.Packing.{width}
 use Rattle.qcow2_metadata.specs.Placed.{numbers_at, place_fault}
 use Rattle.qcow2_metadata.specs.Refblock.{BlockState, block_geometry_of, block_layout, greatest_counter}
 use Rattle.qcow2_metadata.specs.Table.{first_fault}
-use Rattle.qcow2_check.specs.Counters.{AreFree, CountersState, IsKeptBlockOf, block_place_fault, blocks_fault, block_of_cluster, counter_of, counters_each}
+use Rattle.qcow2_check.specs.Counters.{AreFree, CountersState, IsKeptBlockOf, ReportNone, block_place_fault, blocks_fault, block_of_cluster, counter_of, counters_each, is_counted_again, unused_counter}
+use Rattle.qcow2_check.specs.Repeats.{AreTimesOf, is_again, times_at}
 
 -- the last cluster that ends by the greatest end
 pub place_limit : (block cb most : ℕ) → most ≡ 2 ^ 56 / 2 ^ cb → (most ≤ block) ↔ (2 ^ 56 < block * 2 ^ cb + 2 ^ cb)
@@ -144,9 +147,107 @@ kept_zeros reader image block c count is names within zeros kept = λ other afte
         rw sum at here
 
 -- and those of clusters without a block are
-pub no_block_is_free : (reader : CountersState) (image : Image) (from to : ℕ)
-    → ((c : ℕ) → from ≤ c → c < to → block_of_cluster reader.header reader.reftable c ≡ None) → AreFree reader image from to
-no_block_is_free reader image from to none = λ c after before. rw (none c after before, counter_of) refl
+pub free_unused : (header : HeaderRecord) (reftable : List ℕ) (image : Image) (c : ℕ) → counter_of header reftable image c ≡ 0
+    → unused_counter header reftable image c ≡ 0
+free_unused header reftable image c free = by_test (is_counted_again header reftable c) refl
+  where
+    by_test : (again : Bool) → is_counted_again header reftable c ≡ again → unused_counter header reftable image c ≡ 0
+    by_test true is = rw is refl
+    by_test false is = rw is free
+
+-- so they are reported
+pub all_free : (reader : CountersState) (image : Image) (from to : ℕ) → AreFree reader image from to → ReportNone reader image from to
+all_free reader image from to free = λ c after before. free_unused reader.header reader.reftable image c (free c after before)
+
+pub no_block : (reader : CountersState) (image : Image) (from to : ℕ)
+    → ((c : ℕ) → from ≤ c → c < to → block_of_cluster reader.header reader.reftable c ≡ None) → ReportNone reader image from to
+no_block reader image from to none =
+    λ c after before. free_unused reader.header reader.reftable image c (rw (none c after before, counter_of) refl)
+
+-- nothing is reported of unused clusters in a block that is named before
+pub again_reports : (reader : CountersState) (image : Image) (c to : ℕ) → is_counted_again reader.header reader.reftable c ≡ true
+    → to ≤ c - c % counters_each reader.header + counters_each reader.header → ReportNone reader image c to
+again_reports reader image c to again within = λ other after before.
+    let n = counters_each reader.header in
+    let same : other / n ≡ c / n = same_quotient n c other (pow_pos _) after (omega (arith, before, within)) in
+    let there : is_counted_again reader.header reader.reftable other ≡ true = rw same again in
+    rw there refl
+
+-- an entry that names a block is one of the refcount table's, and not 0
+pub names_inside : (cb : ℕ) (reftable : List ℕ) (index : ℕ) (block : HostCluster) → named_block cb (slice_index reftable index) ≡ Some block
+    → (index < length reftable) × (0 < slice_index reftable index)
+names_inside cb reftable index block names = (
+  elim (cases_lt index (length reftable)) [
+    | inl inside ↦ inside
+    | inr past ↦
+        let blank : slice_index reftable index ≡ 0 = get_or_past reftable index 0 past in
+        absurd (none-some block (ap (λ v. named_block cb v) (sym blank) ∙ names))
+  ],
+  elim (cases_eq (slice_index reftable index) 0) [
+    | inl blank ↦ absurd (none-some block (ap (λ v. named_block cb v) (sym blank) ∙ names))
+    | inr some ↦ omega (arith, some)
+  ],
+)
+
+-- and lies below the greatest end where all blocks can lie where the refcount table says
+named_below : (header : HeaderRecord) (reftable : List ℕ) (c : ℕ) (block : HostCluster) → blocks_fault header reftable ≡ None
+    → block_of_cluster header reftable c ≡ Some block → slice_index reftable (c / counters_each header) < max_file_length
+named_below header reftable c block placed names =
+    let v = slice_index reftable (c / counters_each header) in
+    let size = 2 ^ header.v2.cluster_bits in
+    let place = place_of_block header reftable c block placed names in
+    let end : block.0 * size + size ≤ max_file_length = grind (arith, nat_tests, place) in
+    let some : 0 < v = (names_inside header.v2.cluster_bits reftable (c / counters_each header) block names).1 in
+    let is : block.0 ≡ v / size = grind (arith, nat_tests, names, some) in
+    let parts : v / size * size + v % size ≡ v = div-add-mod' v size in
+    let rest : v % size < size = mod_below v size (pow_pos _) in
+    omega (arith, end, parts, rest, ap (λ n. n * size) is)
+
+-- a block that counts no more is named before
+pub counted_again : (header : HeaderRecord) (reftable times : List ℕ) (c : ℕ) (block : HostCluster) → AreTimesOf reftable times
+    → blocks_fault header reftable ≡ None → times_at times (c / counters_each header) ≡ 0 → block_of_cluster header reftable c ≡ Some block
+    → is_counted_again header reftable c ≡ true
+counted_again header reftable times c block are placed none names =
+    let index = c / counters_each header in
+    let there = names_inside header.v2.cluster_bits reftable index block names in
+    let again : is_again reftable index ≡ true = (are.again index there.0 there.1).0 none in
+    rw again (grind (arith, nat_tests, named_below header reftable c block placed names))
+
+pub some_again : (header : HeaderRecord) (reftable times : List ℕ) (c : ℕ) → AreTimesOf reftable times → blocks_fault header reftable ≡ None
+    → times_at times (c / counters_each header) ≡ 0 → is_some (block_of_cluster header reftable c) ≡ true
+    → is_counted_again header reftable c ≡ true
+some_again header reftable times c are placed none some = by_block (block_of_cluster header reftable c) refl some
+  where
+    by_block : (found : Option HostCluster) → block_of_cluster header reftable c ≡ found → is_some found ≡ true → is_counted_again header reftable c ≡ true
+    by_block None names there = absurd (true≢false (sym there))
+    by_block (Some block) names there = counted_again header reftable times c block are placed none names
+
+-- and the counters of unused clusters are reported if a block counts, or there is none
+pub reported : (header : HeaderRecord) (reftable times : List ℕ) (image : Image) (c : ℕ) → AreTimesOf reftable times
+    → (0 < times_at times (c / counters_each header)) ⊎ (block_of_cluster header reftable c ≡ None)
+    → unused_counter header reftable image c ≡ counter_of header reftable image c
+reported header reftable times image c are (inr none) =
+    let free : counter_of header reftable image c ≡ 0 = rw (none, counter_of) refl in
+    free_unused header reftable image c free ∙ sym free
+reported header reftable times image c are (inl counts) = by_block (block_of_cluster header reftable c) refl
+  where
+    index : ℕ
+    index = c / counters_each header
+
+    by_test : (block : HostCluster) → block_of_cluster header reftable c ≡ Some block → (again : Bool) → is_again reftable (c / counters_each header) ≡ again
+        → unused_counter header reftable image c ≡ counter_of header reftable image c
+    by_test block names true is =
+        let there = names_inside header.v2.cluster_bits reftable index block names in
+        let never : ⊥ = omega (arith, counts, (are.again index there.0 there.1).1 is) in
+        absurd never
+    by_test block names false is = rw is refl
+
+    by_block : (found : Option HostCluster) → block_of_cluster header reftable c ≡ found
+        → unused_counter header reftable image c ≡ counter_of header reftable image c
+    by_block None none =
+        let free : counter_of header reftable image c ≡ 0 = rw (none, counter_of) refl in
+        free_unused header reftable image c free ∙ sym free
+    by_block (Some block) names = by_test block names (is_again reftable index) refl
 
 -- so the counters of the kept block are those of the clusters from its first one on
 pub block_counters : (header : HeaderRecord) (reftable : List ℕ) (image : Image) (kept : Option BlockState) (block : BlockState) (c : ℕ)

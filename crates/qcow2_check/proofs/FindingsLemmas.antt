@@ -1,5 +1,5 @@
-use Rattle.std.proofs.Common.{◌≡◌, ◌↔◌, ℕ, false, ◌==◌, ◌+◌, ◌/◌, ◌%◌, ◌<◌, ◌≤◌, ◌&&◌, List, [], ◌∷◌, fold, Some, None, Result, Ok, Err, refl, sym, ap, subst, inl, inr, ◌∙◌, length, slice_index, slice_set, ◌-◌, div-add-mod', IsSomeAnd, IfSome, Option, arith}
-use Rattle.std.proofs.lemmas.Bool.{cases_lt}
+use Rattle.std.proofs.Common.{◌≡◌, ◌↔◌, ℕ, false, ◌==◌, ◌+◌, ◌/◌, ◌%◌, ◌<◌, ◌≤◌, ◌&&◌, List, [], ◌∷◌, fold, Some, None, Result, Ok, Err, refl, sym, ap, subst, inl, inr, ◌∙◌, length, slice_index, slice_set, ◌-◌, div-add-mod', IsSomeAnd, IfSome, Option, if◌then◌else◌, arith}
+use Rattle.std.proofs.lemmas.Bool.{cases_eq, cases_lt}
 use Rattle.std.proofs.lemmas.Bool.Decides.{nat_tests}
 use Rattle.std.proofs.lemmas.Grind.{get_or-set_at}
 use Rattle.std.proofs.lemmas.List.{get_or-set_other}
@@ -12,14 +12,14 @@ use Rattle.qcow2_metadata.specs.Header.{HeaderRecord, geometry_of}
 use Rattle.qcow2_metadata.specs.Results.{Reads}
 use Rattle.qcow2_metadata.specs.Table.{IsEntryFault}
 use Rattle.qcow2_check.specs.ImageTables.{opened_tables}
-use Rattle.qcow2_check.proofs.CountersLemmas.{kept_counter, same_block, same_remainder}
-use Rattle.qcow2_check.specs.Counters.{IsKeptBlockOf, block_of_cluster, counter_of, counters_each}
+use Rattle.qcow2_check.proofs.CountersLemmas.{free_unused, kept_counter, same_block, same_remainder}
+use Rattle.qcow2_check.specs.Counters.{IsKeptBlockOf, block_of_cluster, counter_of, counters_each, unused_counter}
 use Rattle.qcow2_base.specs.declared.types.HostCluster.{HostCluster}
 use Rattle.qcow2_metadata.specs.Refblock.{BlockState}
 use Rattle.std.proofs.lemmas.Nat.{pow_pos}
 use Rattle.qcow2_metadata.specs.Entries.{is_among}
 use Rattle.qcow2_metadata.specs.Table.L2Guards.{one_if}
-use Rattle.qcow2_check.specs.Findings.{AreRight, CountsAll, FindingsState, IsCheckFault, MovesFindings, PassesFinding, checked_tables, IsFindingsOf, finding_at, is_shared, is_wrong, tables_of, uses_of_kind}
+use Rattle.qcow2_check.specs.Findings.{AreRight, CountsAll, FindingsState, IsCheckFault, MovesFindings, PassesFinding, checked_tables, IsFindingsOf, finding_at, is_shared, is_wrong, reported_counter, tables_of, uses_of_kind}
 use Rattle.qcow2_check.specs.Tally.{CountsMore, IsPlain, TallyState, ClusterUse, cell_at, cell_with, is_shared_cell, mark_of, with_use}
 use Rattle.qcow2_check.specs.Uses.{ImageTables, all_load, image_uses, uses_of}
 use Rattle.qcow2_check.specs.declared.findings.Finding.{Finding}
@@ -78,29 +78,39 @@ cell_counts uses c cell is = grind (arith, nat_tests, is, tells-all uses c 0 0 0
 pub cell_shares : (uses : List ClusterUse) (c cell : ℕ) → cell ≡ fold (cell_with c) 0 uses → is_shared_cell cell ≡ is_shared uses c
 cell_shares uses c cell is = grind (arith, nat_tests, is, tells-all uses c 0 0 0 0 (grind (arith, nat_tests)), uses_by_kind uses c)
 
+-- a counter that is the number of uses is reported so
+pub reported_right : (tables : ImageTables) (image : Image) (c : ℕ)
+    → counter_of tables.header tables.reftable image c ≡ uses_of (image_uses tables image) c
+    → reported_counter tables image c ≡ uses_of (image_uses tables image) c
+reported_right tables image c right = elim (cases_eq (uses_of (image_uses tables image) c) 0) [
+  | inl none ↦ grind (arith, nat_tests, none, free_unused tables.header tables.reftable image c (right ∙ none))
+  | inr some ↦ grind (arith, nat_tests, some, right)
+]
+
 -- what is found at a cluster, by its counter and its cell
 pub found_is : (reader : FindingsState) (tally : TallyState) (image : Image) (c counter cell : ℕ) → reader.tally ≡ Some tally
     → IsFindingsOf image reader → tally.first ≤ c → c < tally.end
-    → counter ≡ counter_of reader.header reader.counters.reftable image c → cell ≡ cell_at tally c
+    → counter ≡ (if cell / 8 == 0 then unused_counter reader.header reader.counters.reftable image c
+    else counter_of reader.header reader.counters.reftable image c) → cell ≡ cell_at tally c
     → record { cluster = record { 0 = c }; counter = counter; uses = cell / 8; shared = is_shared_cell cell } ≡ finding_at (tables_of reader) image c
 found_is reader tally image c counter cell has is from before counts says =
     let uses = image_uses (tables_of reader) image in
     let all : cell_at tally c ≡ fold (cell_with c) 0 uses = (rw has at is.counted) c from before in
     grind (arith, counts, cell_counts uses c cell (says ∙ all), cell_shares uses c cell (says ∙ all))
 
--- nothing is wrong with clusters that have no use and whose counters are 0
+-- nothing is wrong with clusters that have no use and whose counters are reported as 0
 pub right_before : (reader : FindingsState) (tally : TallyState) (image : Image) (from to : ℕ) → reader.tally ≡ Some tally
     → IsFindingsOf image reader → tally.first ≤ from → to ≤ tally.end
     → ((c : ℕ) → from ≤ c → c < to → cell_at tally c ≡ 0)
-    → ((c : ℕ) → from ≤ c → c < to → counter_of reader.header reader.counters.reftable image c ≡ 0)
+    → ((c : ℕ) → from ≤ c → c < to → unused_counter reader.header reader.counters.reftable image c ≡ 0)
     → AreRight (tables_of reader) image from to
 right_before reader tally image from to has is first end unused free = λ c after before.
     let uses = image_uses (tables_of reader) image in
     let all : cell_at tally c ≡ fold (cell_with c) 0 uses = (rw has at is.counted) c (omega (arith, first, after)) (omega (arith, before, end)) in
     let none : 0 ≡ fold (cell_with c) 0 uses = sym (unused c after before) ∙ all in
-    let counter : counter_of reader.header reader.counters.reftable image c ≡ uses_of uses c = free c after before ∙ cell_counts uses c 0 none in
+    let unused : 0 ≡ uses_of uses c = cell_counts uses c 0 none in
     let apart : is_shared uses c ≡ false = sym (cell_shares uses c 0 none) in
-    grind (arith, nat_tests, counter, apart)
+    grind (arith, nat_tests, free c after before, unused, apart)
 
 pub right_more : (tables : ImageTables) (image : Image) (from c : ℕ) (finding : Finding) → AreRight tables image from c
     → finding ≡ finding_at tables image c → is_wrong finding ≡ false → AreRight tables image from (c + 1)
@@ -266,7 +276,7 @@ right_in_block reader tally block b image from count has kept named place is fir
     kept_counter reader.header reader.counters.reftable image block b c named place_c kept_is
     ∙ sym (rw index at (sym fine.0)) ∙ cell_counts uses c (cell_at tally c) all in
     let apart : is_shared uses c ≡ false = sym (cell_shares uses c (cell_at tally c) all) ∙ fine.1 in
-    grind (arith, nat_tests, counter, apart)
+    grind (arith, nat_tests, reported_right (tables_of reader) image c counter, apart)
 
 pub right_in_kept : (reader : FindingsState) (tally : TallyState) (block : BlockState) (image : Image) (from count : ℕ)
     → reader.tally ≡ Some tally → reader.counters.block ≡ Some block
@@ -320,4 +330,14 @@ copied_next f xs n v within before here k below = elim (cases_lt k n) [
   | inr more ↦
       let same : k ≡ n = omega (arith, below, more) in
       get_or-set_at xs n k v 0 same within ∙ here ∙ ap f (sym same)
+]
+
+-- a counter that is chosen by a number of uses
+pub where_unused : (uses unused other counter : ℕ) → uses ≡ 0 → counter ≡ unused → counter ≡ (if uses == 0 then unused else other)
+where_unused uses unused other counter none is = grind (arith, nat_tests, none, is)
+
+pub where_used : (uses unused other counter : ℕ) → (uses ≡ 0 → ⊥) → counter ≡ other → counter ≡ (if uses == 0 then unused else other)
+where_used uses unused other counter some is = elim (cases_eq uses 0) [
+  | inl none ↦ absurd (some none)
+  | inr differs ↦ grind (arith, nat_tests, differs, is)
 ]

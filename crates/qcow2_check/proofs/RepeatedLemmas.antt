@@ -1,25 +1,23 @@
-use Rattle.std.proofs.Common.{◌≡◌, ℕ, zero, suc, Bool, true, false, if◌then◌else◌, ◌+◌, ◌*◌, ◌<◌, List, [], ◌∷◌, ◌++◌, flat_map, length, map, slice_index, take, Some, None, Option, OnOk, Result, Ok, Err, inl, inr, refl, subst, sym, ◌∙◌, ap, arith}
-use Rattle.std.proofs.Math.Nat.{zero-add}
+use Rattle.std.proofs.Common.{◌≡◌, ℕ, zero, suc, Bool, true, false, if◌then◌else◌, ◌==◌, ◌+◌, ◌*◌, ◌<◌, List, [], ◌∷◌, ◌++◌, flat_map, length, map, slice_index, take, Some, None, Option, OnOk, Result, Ok, Err, inl, inr, refl, subst, sym, ◌∙◌, ap, arith}
 use Rattle.std.proofs.lemmas.Bool.{cases_eq}
 use Rattle.std.proofs.lemmas.Bool.Decides.{nat_tests}
-use Rattle.std.proofs.lemmas.List.{append-nil, get_or-take, length-map, length-take-le, map-append}
+use Rattle.std.proofs.lemmas.List.{get_or-take, length-map, length-take-le, map-append}
 use Rattle.std.proofs.lemmas.List.Sums.{sum_by-append, sum_by-cons}
 use Rattle.std.proofs.lemmas.Option.{none-some}
 use Rattle.std.specs.List.{fold, sum_by}
-use Rattle.qcow2_base.specs.Storage.{Image, OnImage, OnlyReads, StorageState}
+use Rattle.qcow2_base.specs.Storage.{Image, OnImage, StorageState}
 use Rattle.qcow2_base.specs.declared.fault.Fault.{Fault}
 use Rattle.qcow2_metadata.specs.Entries.{is_among, offset_field}
 use Rattle.qcow2_metadata.specs.Header.{Geometry, geometry_of}
 use Rattle.qcow2_base.specs.declared.types.HostCluster.{HostCluster}
 use Rattle.qcow2_metadata.specs.Placed.{IsLoaded, numbers_at}
-use Rattle.qcow2_metadata.specs.Results.{Reads, result_map}
-use Rattle.qcow2_metadata.specs.Table.{IsEntryFault, TableState, l2_layout, loaded_l2_table}
-use Rattle.qcow2_check.proofs.CountingLemmas.{counted_entries, counted_l1, counts_both, guest_uses, kinds_commute, same_counts}
+use Rattle.qcow2_metadata.specs.Results.{result_map}
+use Rattle.qcow2_metadata.specs.Table.{TableState, l2_layout, loaded_l2_table}
+use Rattle.qcow2_check.proofs.CountingLemmas.{counted_entries, counted_l1, guest_uses, kinds_commute, same_counts}
 use Rattle.qcow2_check.proofs.FindingsLemmas.{kind-cons}
 use Rattle.qcow2_check.proofs.FlagsLemmas.{loads_each}
 use Rattle.qcow2_check.proofs.RepeatsLemmas.{again_where, name_at}
-use Rattle.qcow2_check.proofs.SinkLemmas.{list_next}
-use Rattle.qcow2_check.proofs.UsesLemmas.{all_load_more, all_load_until, loaded, no_entry_uses, take_more}
+use Rattle.qcow2_check.proofs.UsesLemmas.{all_load_more, loaded, no_entry_uses, take_more}
 use Rattle.qcow2_check.proofs.TallyLemmas.{nothing_counts}
 use Rattle.qcow2_check.specs.Findings.{uses_of_kind}
 use Rattle.qcow2_check.specs.NamedTables.{cluster_unless_zero, named_cluster}
@@ -161,7 +159,7 @@ counted_repeated (suc times) uses =
     map-append counted_use uses (repetition times uses) ∙ ap (λ us. map counted_use uses ++ us) (counted_repeated times uses)
 
 -- what the entries refer to of a table that an L1 entry may name
-abbrev entries_at : Geometry → Image → ℕ → Option HostCluster → List Use
+abbrev pub entries_at : Geometry → Image → ℕ → Option HostCluster → List Use
 entries_at g image index named = elim named [
   | None ↦ []
   | Some cluster ↦ entries_list g index (numbers_at (l2_layout g) cluster image)
@@ -195,12 +193,6 @@ took_nothing image g index v times a none = record {
     nothing : (times : ℕ) → repetition {Used = Use} times [] ≡ []
     nothing zero = refl
     nothing (suc times) = nothing times
-
--- the L2 tables that the first L1 entries name can be loaded, and what they refer to is counted as often as it counts
-pub record AreCounted (tables : ImageTables) (times : List ℕ) (index : ℕ) (old new : StorageState) (before after : TallyState) : Type 0 where
-  pub loads : OnImage old (λ bytes. all_load (geometry_of tables.header) (take index tables.l1) bytes ≡ loaded)
-  pub taken : Took CountsUses old (λ bytes. list_from (λ i v. repetition (times_at times i) (l1_list (geometry_of tables.header) bytes i v)) 0 (take index tables.l1)) before after
-  pub storage : OnlyReads loaded old new
 
 -- an L1 entry that names a table has an offset
 some_offset : (cb v : ℕ) → (named_cluster cb v ≡ None → ⊥) → 0 < offset_field v
@@ -246,69 +238,34 @@ loads_again g image l1 times index below are none so_far =
         subst (λ w. l1_entry_loads g image w ≡ loaded) there (loads_each g image (take index l1) earlier.0 within so_far) in
         ap (λ found. loads_found g image found) (named ∙ sym earlier.2) ∙ before
 
-module _ (tables : ImageTables) (times : List ℕ) (index : ℕ) (below : index < length tables.l1) where
-  abbrev g : Geometry
-  g = geometry_of tables.header
+-- what the L2 table of an L1 entry refers to, as often as it counts
+abbrev pub repeated_uses : Geometry → List ℕ → Image → ℕ → ℕ → List Use
+repeated_uses g times image index v = repetition (times_at times index) (l1_list g image index v)
 
-  abbrev v : ℕ
-  v = slice_index tables.l1 index
+-- the same, once at most
+abbrev pub unrepeated_uses : Geometry → List ℕ → Image → ℕ → ℕ → List Use
+unrepeated_uses g times image index v = if times_at times index == 0 then [] else l1_list g image index v
 
-  abbrev uses : Image → ℕ → ℕ → List Use
-  uses bytes i w = repetition (times_at times i) (l1_list g bytes i w)
+-- that is nothing where it counts 0 times, and else all
+pub unrepeated_none : (g : Geometry) (times : List ℕ) (image : Image) (index v : ℕ) → times_at times index ≡ 0 → unrepeated_uses g times image index v ≡ []
+unrepeated_none g times image index v none = ap (λ n. if n == 0 then [] else l1_list g image index v) none
 
-  next : (bytes : Image) → list_from (uses bytes) 0 (take (index + 1) tables.l1) ≡ list_from (uses bytes) 0 (take index tables.l1) ++ uses bytes index v
-  next bytes = list_next (uses bytes) 0 tables.l1 index below ∙ ap (λ i. list_from (uses bytes) 0 (take index tables.l1) ++ uses bytes i v) (zero-add index)
+pub unrepeated_some : (g : Geometry) (times : List ℕ) (image : Image) (index v : ℕ) → 0 < times_at times index
+    → unrepeated_uses g times image index v ≡ l1_list g image index v
+unrepeated_some g times image index v some =
+    let counts : times_at times index == 0 ≡ false = grind (arith, nat_tests, some) in
+    ap (λ test. if test then [] else l1_list g image index v) counts
 
-  -- the L2 table of one L1 entry more
-  pub counted_more : (old mid new : StorageState) (a b c : TallyState) (answer : Result (Unit {0}) Fault) → answer ≡ loaded
-      → AreCounted tables times index old mid a b
-      → Reads (λ done. done) answer (λ bytes. l1_entry_loads g bytes v) IsEntryFault mid new
-      → OnOk answer (Took CountsUses mid (λ bytes. uses bytes index v) b c)
-      → AreCounted tables times (index + 1) old new a c
-  counted_more old mid new a b c answer is so_far reads more =
-      let here : Took CountsUses mid (λ bytes. uses bytes index v) b c =
-      subst (λ (r : Result (Unit {0}) Fault). OnOk r (Took CountsUses mid (λ bytes. uses bytes index v) b c)) is more in
-      record {
-        loads = λ told.
-            let loads : l1_entry_loads g old.byte_at v ≡ loaded = grind (arith, is, so_far.storage, reads.exact, told) in
-            rw (take_more tables.l1 index 0 below, all_load_more g old.byte_at (take index tables.l1) v, so_far.loads told) loads;
-        taken = record {
-          uses = so_far.taken.uses ++ here.uses;
-          taken = counts_both so_far.taken.uses here.uses a b c so_far.taken.taken here.taken;
-          known = λ told.
-              let after : here.uses ≡ uses mid.byte_at index v = here.known (rw so_far.storage.device.tells told) in
-              let known : here.uses ≡ uses old.byte_at index v = after ∙ ap (λ bytes. uses bytes index v) so_far.storage.bytes in
-              ap (λ us. us ++ here.uses) (so_far.taken.known told) ∙ ap (λ us. list_from (uses old.byte_at) 0 (take index tables.l1) ++ us) known
-              ∙ sym (next old.byte_at);
-        };
-        storage = grind (arith, is, so_far.storage, reads.storage);
-      }
-
-  -- or that of one which an entry before it names too
-  pub counted_again : (old mid : StorageState) (a b : TallyState) → AreTimesOf (table_names tables.l1) times → times_at times index ≡ 0
-      → AreCounted tables times index old mid a b → AreCounted tables times (index + 1) old mid a b
-  counted_again old mid a b are none so_far = record {
-    loads = λ told. loads_again g old.byte_at tables.l1 times index below are none (so_far.loads told);
-    taken = record {
-      uses = so_far.taken.uses;
-      taken = so_far.taken.taken;
-      known = λ told. so_far.taken.known told
-          ∙ sym (next old.byte_at ∙ ap (λ n. list_from (uses old.byte_at) 0 (take index tables.l1) ++ repetition n (l1_list g old.byte_at index v)) none
-          ∙ append-nil (list_from (uses old.byte_at) 0 (take index tables.l1)));
-    };
-    storage = so_far.storage;
-  }
-
-  -- or where it can't be loaded, all can't
-  pub counted_refused : (old mid new : StorageState) (a b : TallyState) (answer : Result (Unit {0}) Fault) (fault : Fault) → answer ≡ Err fault
-      → AreCounted tables times index old mid a b
-      → Reads (λ done. done) answer (λ bytes. l1_entry_loads g bytes v) IsEntryFault mid new
-      → Reads (λ done. done) answer (all_load g tables.l1) IsEntryFault old new
-  counted_refused old mid new a b answer fault is so_far reads = record {
-    exact = λ told. grind (arith, is, so_far.storage, reads.exact, told, all_load_until g old.byte_at tables.l1 index fault below (so_far.loads told));
-    faults = reads.faults;
-    storage = grind (arith, is, so_far.storage, reads.storage);
-  }
+-- so a sink that took all of it took that
+pub taken_unrepeated : {Sink : Type 0} (takes : List Use → Sink → Sink → Type 0) (answer : Result (Unit {0}) Fault) (image : StorageState) (g : Geometry)
+    (times : List ℕ) (index v : ℕ) (a b : Sink) → 0 < times_at times index
+    → OnOk answer (Took takes image (λ bytes. l1_list g bytes index v) a b) → OnOk answer (Took takes image (λ bytes. unrepeated_uses g times bytes index v) a b)
+taken_unrepeated takes (Ok done) image g times index v a b some took = record {
+  uses = took.uses;
+  taken = took.taken;
+  known = λ told. took.known told ∙ sym (unrepeated_some g times image.byte_at index v some);
+}
+taken_unrepeated takes (Err fault) image g times index v a b some took = tt
 
 -- how many of what the table at an offset refers to are uses of a cluster of a kind
 abbrev worth_at : Geometry → Image → TallyKind → ℕ → ℕ → ℕ

@@ -10,7 +10,7 @@ use Rattle.qcow2_metadata.specs.Table.{IsEntryFault, TableState, l2_layout}
 use Rattle.qcow2_base.specs.declared.types.HostCluster.{HostCluster}
 use Rattle.qcow2_check.proofs.UsesLemmas.{all_load_more, all_load_until, loaded, take_more}
 use Rattle.qcow2_check.specs.Uses.{all_load, l1_entry_loads}
-use Rattle.qcow2_check.specs.Walk.{Took, entries_list, entry_list, l1_list, list_from, one_use, row_list}
+use Rattle.qcow2_check.specs.Walk.{Took, entries_list, entry_list, list_from, one_use, row_list}
 use Rattle.qcow2_check.specs.declared.uses.Use.{Use}
 use Rattle.qcow2_check.specs.declared.uses.UseKind.TheVariants.{Data}
 
@@ -79,10 +79,10 @@ list_row uses place vs i (suc k) start within each =
     ∙ append_assoc before (row_list start (place + i) k) (one_use Data (record { 0 = start + k }) 1 (place + i + k) ∷ [])
     ∙ ap (λ us. before ++ us) (sym (row_append start (place + i) k) ∙ ap (λ n. row_list start (place + i) n) one_more)
 
--- the L2 tables that the first L1 entries name are loaded, and they and what they refer to are taken
-pub record AreWalked {Sink : Type 0} (takes : List Use → Sink → Sink → Type 0) (g : Geometry) (l1 : List ℕ) (index : ℕ) (old new : StorageState) (before after : Sink) : Type 0 where
+-- the L2 tables that the first L1 entries name can be loaded, and what these entries use is taken
+pub record AreWalked {Sink : Type 0} (takes : List Use → Sink → Sink → Type 0) (g : Geometry) (l1 : List ℕ) (uses : Image → ℕ → ℕ → List Use) (index : ℕ) (old new : StorageState) (before after : Sink) : Type 0 where
   pub loads : OnImage old (λ bytes. all_load g (take index l1) bytes ≡ loaded)
-  pub taken : Took takes old (λ bytes. list_from (l1_list g bytes) 0 (take index l1)) before after
+  pub taken : Took takes old (λ bytes. list_from (uses bytes) 0 (take index l1)) before after
   pub storage : OnlyReads loaded old new
 
 -- a sink, as its trait says it
@@ -129,41 +129,60 @@ module _ {Sink : Type 0} (takes : List Use → Sink → Sink → Type 0)
   takes_after (Ok done) first second a b c one other = both first second a b c one other
   takes_after (Err fault) first second a b c one other = tt
 
-  -- the L2 table of one L1 entry more
-  pub walked_more : (g : Geometry) (l1 : List ℕ) (index : ℕ) (old mid new : StorageState) (a b c : Sink)
-      (answer : Result (Unit {0}) Fault) → index < length l1 → answer ≡ loaded
-      → AreWalked takes g l1 index old mid a b
-      → Reads (λ done. done) answer (λ bytes. l1_entry_loads g bytes (slice_index l1 index)) IsEntryFault mid new
-      → OnOk answer (Took takes mid (λ bytes. l1_list g bytes index (slice_index l1 index)) b c)
-      → AreWalked takes g l1 (index + 1) old new a c
-  walked_more g l1 index old mid new a b c answer below is so_far reads more =
-      let next : take (index + 1) l1 ≡ take index l1 ++ slice_index l1 index ∷ [] = take_more l1 index 0 below in
-      let here : Took takes mid (λ bytes. l1_list g bytes index (slice_index l1 index)) b c =
-      subst (λ (r : Result (Unit {0}) Fault). OnOk r (Took takes mid (λ bytes. l1_list g bytes index (slice_index l1 index)) b c)) is more in
-      record {
-        loads = λ told.
-            let loads : l1_entry_loads g old.byte_at (slice_index l1 index) ≡ loaded = grind (arith, is, so_far.storage, reads.exact, told) in
-            rw (next, all_load_more g old.byte_at (take index l1) (slice_index l1 index), so_far.loads told) loads;
-        taken = record {
-          uses = so_far.taken.uses ++ here.uses;
-          taken = both so_far.taken.uses here.uses a b c so_far.taken.taken here.taken;
-          known = λ told.
-              let after : here.uses ≡ l1_list g mid.byte_at index (slice_index l1 index) = here.known (rw so_far.storage.device.tells told) in
-              let known : here.uses ≡ l1_list g old.byte_at index (slice_index l1 index) =
-              after ∙ ap (λ bytes. l1_list g bytes index (slice_index l1 index)) so_far.storage.bytes in
-              rw (list_next (l1_list g old.byte_at) 0 l1 index below, so_far.taken.known told, known, zero-add index) refl;
-        };
-        storage = grind (arith, is, so_far.storage, reads.storage);
-      }
+  module _ (g : Geometry) (l1 : List ℕ) (uses : Image → ℕ → ℕ → List Use) (index : ℕ) (below : index < length l1) where
+    abbrev v : ℕ
+    v = slice_index l1 index
 
-  -- or where it can't be loaded, all can't
-  pub refused_at : (g : Geometry) (l1 : List ℕ) (index : ℕ) (old mid new : StorageState) (a b : Sink)
-      (answer : Result (Unit {0}) Fault) (fault : Fault) → index < length l1 → answer ≡ Err fault
-      → AreWalked takes g l1 index old mid a b
-      → Reads (λ done. done) answer (λ bytes. l1_entry_loads g bytes (slice_index l1 index)) IsEntryFault mid new
-      → Reads (λ done. done) answer (all_load g l1) IsEntryFault old new
-  refused_at g l1 index old mid new a b answer fault below is so_far reads = record {
-    exact = λ told. grind (arith, is, so_far.storage, reads.exact, told, all_load_until g old.byte_at l1 index fault below (so_far.loads told));
-    faults = reads.faults;
-    storage = grind (arith, is, so_far.storage, reads.storage);
-  }
+    next : (bytes : Image) → list_from (uses bytes) 0 (take (index + 1) l1) ≡ list_from (uses bytes) 0 (take index l1) ++ uses bytes index v
+    next bytes = list_next (uses bytes) 0 l1 index below ∙ ap (λ i. list_from (uses bytes) 0 (take index l1) ++ uses bytes i v) (zero-add index)
+
+    -- what one L1 entry more uses
+    pub walked_more : (old mid new : StorageState) (a b c : Sink) (answer : Result (Unit {0}) Fault) → answer ≡ loaded
+        → AreWalked takes g l1 uses index old mid a b
+        → Reads (λ done. done) answer (λ bytes. l1_entry_loads g bytes v) IsEntryFault mid new
+        → OnOk answer (Took takes mid (λ bytes. uses bytes index v) b c)
+        → AreWalked takes g l1 uses (index + 1) old new a c
+    walked_more old mid new a b c answer is so_far reads more =
+        let here : Took takes mid (λ bytes. uses bytes index v) b c =
+        subst (λ (r : Result (Unit {0}) Fault). OnOk r (Took takes mid (λ bytes. uses bytes index v) b c)) is more in
+        record {
+          loads = λ told.
+              let loads : l1_entry_loads g old.byte_at v ≡ loaded = grind (arith, is, so_far.storage, reads.exact, told) in
+              rw (take_more l1 index 0 below, all_load_more g old.byte_at (take index l1) v, so_far.loads told) loads;
+          taken = record {
+            uses = so_far.taken.uses ++ here.uses;
+            taken = both so_far.taken.uses here.uses a b c so_far.taken.taken here.taken;
+            known = λ told.
+                let after : here.uses ≡ uses mid.byte_at index v = here.known (rw so_far.storage.device.tells told) in
+                let known : here.uses ≡ uses old.byte_at index v = after ∙ ap (λ bytes. uses bytes index v) so_far.storage.bytes in
+                ap (λ us. us ++ here.uses) (so_far.taken.known told) ∙ ap (λ us. list_from (uses old.byte_at) 0 (take index l1) ++ us) known
+                ∙ sym (next old.byte_at);
+          };
+          storage = grind (arith, is, so_far.storage, reads.storage);
+        }
+
+    -- or nothing, where the table that it names can be loaded if those before can
+    pub walked_past : (old mid : StorageState) (a b : Sink) → ((bytes : Image) → uses bytes index v ≡ [])
+        → ((bytes : Image) → all_load g (take index l1) bytes ≡ loaded → all_load g (take (index + 1) l1) bytes ≡ loaded)
+        → AreWalked takes g l1 uses index old mid a b → AreWalked takes g l1 uses (index + 1) old mid a b
+    walked_past old mid a b none loads so_far = record {
+      loads = λ told. loads old.byte_at (so_far.loads told);
+      taken = record {
+        uses = so_far.taken.uses;
+        taken = so_far.taken.taken;
+        known = λ told. so_far.taken.known told ∙ sym (next old.byte_at ∙ ap (λ us. list_from (uses old.byte_at) 0 (take index l1) ++ us) (none old.byte_at)
+            ∙ append-nil (list_from (uses old.byte_at) 0 (take index l1)));
+      };
+      storage = so_far.storage;
+    }
+
+    -- or where it can't be loaded, all can't
+    pub refused_at : (old mid new : StorageState) (a b : Sink) (answer : Result (Unit {0}) Fault) (fault : Fault) → answer ≡ Err fault
+        → AreWalked takes g l1 uses index old mid a b
+        → Reads (λ done. done) answer (λ bytes. l1_entry_loads g bytes v) IsEntryFault mid new
+        → Reads (λ done. done) answer (all_load g l1) IsEntryFault old new
+    refused_at old mid new a b answer fault is so_far reads = record {
+      exact = λ told. grind (arith, is, so_far.storage, reads.exact, told, all_load_until g old.byte_at l1 index fault below (so_far.loads told));
+      faults = reads.faults;
+      storage = grind (arith, is, so_far.storage, reads.storage);
+    }

@@ -1,5 +1,5 @@
 -- What does an image's own counter say of a cluster?
-use Rattle.std.specs.Prelude.{◌≡◌, ◌⊎◌, ℕ, ◌-◌, ◌/◌, ◌%◌, ◌<◌, ◌≤◌, List, [], slice_index, Option, Some, None, Result, Ok, IfSome, IsSome}
+use Rattle.std.specs.Prelude.{◌≡◌, ◌⊎◌, ℕ, Bool, ◌&&◌, ◌-◌, ◌/◌, ◌%◌, ◌<◌, ◌≤◌, nat_lt, if◌then◌else◌, List, [], slice_index, Option, Some, None, Result, Ok, IfSome, IsSome}
 use Rattle.qcow2_base.specs.Format.{max_file_length}
 use Rattle.qcow2_base.specs.Storage.{Image, OnImage, StorageState}
 use Rattle.qcow2_base.specs.declared.fault.Fault.{Fault}
@@ -11,6 +11,7 @@ use Rattle.qcow2_metadata.specs.Refblock.{BlockState, block_entries, block_geome
 use Rattle.qcow2_metadata.specs.Results.{and_then, unless_refused}
 use Rattle.qcow2_metadata.specs.Table.{IsTableFault, first_fault}
 use Rattle.qcow2_check.specs.NamedTables.{l1_cluster, l1_layout, loaded_reftable, named_block, reftable_cluster, reftable_layout}
+use Rattle.qcow2_check.specs.Repeats.{is_again}
 
 -- how many counters a refcount block has
 abbrev pub counters_each : HeaderRecord → ℕ
@@ -34,6 +35,17 @@ counter_of header reftable image c = elim (block_of_cluster header reftable c) [
   | Some block ↦ slice_index (numbers_at (block_layout (block_geometry_of header)) block image) (c % counters_each header)
 ]
 
+-- whether the entry of cluster c names a block, below the greatest end, that an entry before it names too
+abbrev pub is_counted_again : HeaderRecord → List ℕ → ℕ → Bool
+is_counted_again header reftable c = let index = c / counters_each header in
+    is_again reftable index && nat_lt (slice_index reftable index) max_file_length
+
+-- the counter of a cluster c that nothing uses, as it is reported: 0 where its block is named before, since its counters are
+-- reported there
+abbrev pub unused_counter : HeaderRecord → List ℕ → Image → ℕ → ℕ
+unused_counter header reftable image c =
+    if is_counted_again header reftable c then 0 else counter_of header reftable image c
+
 -- what a reader of counters has: the image's header and refcount table, and a block that it keeps
 pub record CountersState : Type 0 where
   pub header : HeaderRecord
@@ -43,6 +55,10 @@ pub record CountersState : Type 0 where
 -- the counters of the clusters from one on to before another are 0 in an image of the reader's
 abbrev pub AreFree : CountersState → Image → ℕ → ℕ → Type 0
 AreFree reader image from to = (c : ℕ) → from ≤ c → c < to → counter_of reader.header reader.reftable image c ≡ 0
+
+-- those of the clusters from one on to before another that nothing uses are reported as 0
+abbrev pub ReportNone : CountersState → Image → ℕ → ℕ → Type 0
+ReportNone reader image from to = (c : ℕ) → from ≤ c → c < to → unused_counter reader.header reader.reftable image c ≡ 0
 
 -- the counters of the block that is kept, none if none is
 abbrev pub numbers_of_kept : Option BlockState → List ℕ

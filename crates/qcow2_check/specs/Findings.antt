@@ -10,7 +10,7 @@ use Rattle.qcow2_metadata.specs.Header.{HeaderRecord, geometry_of, uncounted_par
 use Rattle.qcow2_metadata.specs.Results.{IsFromOutside, and_then, result_map, unless_refused}
 use Rattle.qcow2_metadata.specs.Table.{IsContentFault}
 use Rattle.qcow2_metadata.specs.Table.L2Guards.{one_if}
-use Rattle.qcow2_check.specs.Counters.{CountersState, IsKeptBlockOf, IsTablesFault, counter_of, placed_reftable}
+use Rattle.qcow2_check.specs.Counters.{CountersState, IsKeptBlockOf, IsTablesFault, counter_of, placed_reftable, unused_counter}
 use Rattle.qcow2_check.specs.Flags.{AreMarksOf, MarksState}
 use Rattle.qcow2_check.specs.NamedTables.{loaded_l1_table}
 use Rattle.qcow2_check.specs.Tally.{TallyState, ClusterUse, cell_at, cell_with, mark_of}
@@ -30,11 +30,16 @@ abbrev pub is_shared : List ClusterUse → ℕ → Bool
 is_shared uses c = (nat_lt 0 (uses_of_kind Fixed uses c) && nat_lt 1 (uses_of uses c))
     || (nat_lt 0 (uses_of_kind L2Table uses c) && not (uses_of_kind L2Table uses c == uses_of uses c))
 
+-- the counter of cluster c as it is reported
+abbrev pub reported_counter : ImageTables → Image → ℕ → ℕ
+reported_counter tables image c = if uses_of (image_uses tables image) c == 0
+    then unused_counter tables.header tables.reftable image c else counter_of tables.header tables.reftable image c
+
 -- what is found at cluster c of an image with these tables
 abbrev pub finding_at : ImageTables → Image → ℕ → Finding
 finding_at tables image c = record {
   cluster = record { 0 = c };
-  counter = counter_of tables.header tables.reftable image c;
+  counter = reported_counter tables image c;
   uses = uses_of (image_uses tables image) c;
   shared = is_shared (image_uses tables image) c;
 }

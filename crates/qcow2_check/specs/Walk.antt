@@ -1,5 +1,5 @@
 -- What does an image use, in which order, and what refers to it?
-use Rattle.std.specs.Prelude.{◌≡◌, ℕ, zero, suc, ◌+◌, ◌*◌, ◌^◌, ◌<◌, List, [], ◌∷◌, ◌++◌, if◌then◌else◌, map, take, option_map, option_to_list, Some, None}
+use Rattle.std.specs.Prelude.{◌≡◌, ℕ, zero, suc, ◌==◌, ◌+◌, ◌*◌, ◌^◌, ◌<◌, List, [], ◌∷◌, ◌++◌, if◌then◌else◌, map, take, option_map, option_to_list, Some, None}
 use Rattle.std.specs.Int.{div_ceil}
 use Rattle.qcow2_base.specs.Format.{most_l1_entries, most_reftable_entries}
 use Rattle.qcow2_base.specs.Storage.{Image, OnImage, StorageState}
@@ -84,6 +84,11 @@ guest_list tables image = list_from (l1_list (geometry_of tables.header) image) 
 abbrev pub repeated_list : ImageTables → List ℕ → Image → List Use
 repeated_list tables times image =
     list_from (λ index v. repetition (times_at times index) (l1_list (geometry_of tables.header) image index v)) 0 tables.l1
+
+-- the same, where the L2 table of an L1 entry that counts 0 times refers to nothing, and those of others count once
+abbrev pub unrepeated_list : ImageTables → List ℕ → Image → List Use
+unrepeated_list tables times image =
+    list_from (λ index v. if times_at times index == 0 then [] else l1_list (geometry_of tables.header) image index v) 0 tables.l1
 
 -- all that an image with these tables uses, in order
 abbrev pub use_list : ImageTables → Image → List Use

@@ -11,6 +11,7 @@ ghost use Rattle.qcow2_check.specs.Counters.{IsCountedEnd, IsKeptBlockOf, IsReft
 ghost use Rattle.qcow2_check.specs.NamedTables.{reftable_cluster, reftable_layout};
 
 use crate::named_tables::{load_reftable, named_block};
+use crate::repeats::Repeats;
 use qcow2_base::{Fault, HostCluster, MAX_FILE_LENGTH, Storage};
 use qcow2_metadata::{Header, RefBlock, RefTable, Table};
 use std::alloc::Global;
@@ -29,6 +30,8 @@ const TOGETHER: usize = 64;
 pub struct Counters<'a> {
     header: &'a Header,
     reftable: RefTable,
+    // How often each block counts at the entries of the refcount table.
+    repeats: Repeats,
     block: Option<RefBlock>,
     // The index of the refcount table entry that names the cached block.
     kept_index: usize,
@@ -43,6 +46,7 @@ impl<'a> Model for Counters<'a> {
     ghost use Rattle.qcow2_metadata.specs.Refblock.{block_geometry_of};
     ghost use Rattle.qcow2_check.specs.Counters.{CountersState, blocks_fault};
     ghost use Rattle.qcow2_check.specs.NamedTables.{named_block};
+    ghost use Rattle.qcow2_check.specs.Repeats.{AreTimesOf};
 
     ghost Value = { CountersState };
 
@@ -55,6 +59,7 @@ impl<'a> Model for Counters<'a> {
     ghost invariant = { λ c. (c.reftable.geometry ≡ geometry_of c.header.now)
         × (length c.reftable.numbers ≤ most_reftable_entries)
         × (blocks_fault c.header.now c.reftable.numbers ≡ None)
+        × AreTimesOf c.reftable.numbers c.repeats
         × IfSome c.block (λ block. (block.geometry ≡ block_geometry_of c.header.now)
         × IsSomeAnd block.cluster (λ place. named_block c.header.now.v2.cluster_bits
         (slice_index c.reftable.numbers c.kept_index) ≡ Some place)) };
@@ -233,10 +238,10 @@ pub fn counted_end(header: &Header, reftable: &RefTable) -> u64
 }
 
 impl<'a> Counters<'a> {
-    ghost use Rattle.std.specs.Prelude.{◌≡◌, ℕ, ◌+◌, ◌-◌, ◌%◌, ◌<◌, ◌≤◌, None, Some, IfOk, IfSome, IsSomeAnd, IsTrue, is_some, length, slice_index};
+    ghost use Rattle.std.specs.Prelude.{◌≡◌, ℕ, ◌+◌, ◌-◌, ◌/◌, ◌%◌, ◌<◌, ◌≤◌, false, true, None, Some, IfOk, IfSome, IsSomeAnd, IsTrue, is_some, length, slice_index};
     ghost use Rattle.qcow2_base.specs.Format.{max_file_length, most_reftable_entries};
     ghost use Rattle.qcow2_base.specs.Storage.{Image};
-    ghost use Rattle.qcow2_check.specs.Counters.{AreFree, IsCountedEnd, block_of_cluster, blocks_fault, counter_of, counters_each, placed_reftable};
+    ghost use Rattle.qcow2_check.specs.Counters.{AreFree, IsCountedEnd, ReportNone, block_of_cluster, blocks_fault, counter_of, counters_each, is_counted_again, placed_reftable, unused_counter};
 
     /// Reads the refcount table of an image with this header. Returns the table's fault if it is refused,
     /// else 21 if a block that it names would end past 2^56. Changes no byte.
@@ -256,9 +261,11 @@ impl<'a> Counters<'a> {
     {
         let reftable = load_reftable(alloc, image, header)?;
         check_places(header, &reftable)?;
+        let repeats = Repeats::new(alloc, &reftable)?;
         Ok(Counters {
             header,
             reftable,
+            repeats,
             block: None,
             kept_index: 0,
             alone: 0,
@@ -323,11 +330,34 @@ impl<'a> Counters<'a> {
         ensures none { (c : ℕ) → cluster.0 ≤ c → c < result →
             block_of_cluster self.now.header self.now.reftable c ≡ None }
     {
-        let (table_index, index) = cluster.rt_rb_indices(self.header.rb_bits());
-        if table_index >= self.reftable.entries() {
+        if cluster.rt_index(self.header.rb_bits()) >= self.reftable.entries() {
             return u64::MAX;
         }
-        cluster.0 - index as u64 + self.header.rb_entries() as u64
+        self.range_end(cluster)
+    }
+
+    // The end of the clusters that the refcount table entry of this cluster is for.
+    fn range_end(&self, cluster: HostCluster) -> u64
+        requires { cluster.0 < max_file_length }
+        ensures { let each = counters_each self.now.header in
+            result ≡ cluster.0 - cluster.0 % each + each }
+    {
+        self.block_start(cluster) + self.header.rb_entries() as u64
+    }
+
+    /// Whether refcounts of unused clusters in the block of this cluster are reported as 0: an entry of the
+    /// refcount table before the cluster's names the same block, and they are reported there.
+    #[inline]
+    #[tactic(auto, using(crate::proofs::CountersLemmas::reported, crate::proofs::CountersLemmas::some_again))]
+    pub fn is_counted_again(&self, cluster: HostCluster) -> bool
+        ensures again { result ≡ true →
+            is_counted_again self.now.header self.now.reftable cluster.0 ≡ true }
+        ensures counter { result ≡ false → (image : Image) →
+            unused_counter self.now.header self.now.reftable image cluster.0
+            ≡ counter_of self.now.header self.now.reftable image cluster.0 }
+    {
+        let index = cluster.rt_index(self.header.rb_bits());
+        self.repeats.times(index) == 0 && self.has_block(cluster)
     }
 
     // The number of clusters from one on, at most `count`, whose refcounts are 0 by the cached block. Returns
@@ -346,19 +376,22 @@ impl<'a> Counters<'a> {
         zero_counters(block, index, count.min(left) as usize) as u64
     }
 
-    /// A cluster before which, from `from` on, all refcounts are 0, as far as the refcount table and the
-    /// cached block show it. At most `limit`. Its own refcount may be 0 too.
-    #[tactic(auto, using(crate::proofs::CountersLemmas::no_block_is_free))]
+    /// A cluster before which, from `from` on, refcounts of unused clusters are reported as 0, as far as the
+    /// refcount table and the cached block show it. At most `limit`. Its own may be reported as 0 too.
+    #[tactic(auto, using(crate::proofs::CountersLemmas::no_block, crate::proofs::CountersLemmas::all_free))]
     pub fn free_end(&self, from: HostCluster, limit: u64) -> u64
         requires some { from.0 ≤ limit }
         requires fits { from.0 < max_file_length }
         ensures from { from.0 ≤ result }
         ensures within { result ≤ limit }
         ensures free { (image : Image) → IsKeptBlockOf self.now.header image self.now.block →
-            AreFree self.now image from.0 result }
+            ReportNone self.now image from.0 result }
     {
         if !self.has_block(from) {
             return self.block_end(from).min(limit);
+        }
+        if self.is_counted_again(from) {
+            return self.range_end(from).min(limit);
         }
         from.0 + self.cached_zeros(from, limit - from.0)
     }
@@ -464,6 +497,26 @@ impl<'a> Counters<'a> {
             Some(counter) => Ok(counter),
             None => self.load(image, cluster),
         }
+    }
+
+    /// Returns the refcount of an unused cluster as it is reported, for clusters in ascending order: 0 if an
+    /// entry of the refcount table before the cluster's names the same block, or else as `get_in_order`.
+    #[inline]
+    pub fn get_unused<S: Storage>(
+        &mut self,
+        image: &mut S,
+        cluster: HostCluster,
+    ) -> Result<u64, Fault>
+        requires { OnImage (S.state image.old) (λ bytes. IsKeptBlockOf self.old.header bytes self.old.block) }
+        ensures reads { Reads (λ counter. counter) result
+            (λ bytes. Ok (unused_counter self.old.header self.old.reftable bytes cluster.0))
+            (λ _. ⊥) (S.state image.old) (S.state image.new) }
+        ensures reader { IsSameButBlock (S.state image.old) self.old self.new }
+    {
+        if self.is_counted_again(cluster) {
+            return Ok(0);
+        }
+        self.get_in_order(image, cluster)
     }
 
     // `get` for a cluster whose block isn't cached.

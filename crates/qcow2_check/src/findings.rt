@@ -212,7 +212,7 @@ impl<'a> Findings<'a> {
             l1_table: &l1_table,
             reftable: counters.reftable(),
         };
-        let repeats = Repeats::new(&l1_table)?;
+        let repeats = Repeats::new(alloc, &l1_table)?;
         let mut windows = Windows::new(&tables);
         let tally = windows.count_and_mark(image, &tables, &repeats, 0, &mut marks)?;
         Ok(Findings {
@@ -320,8 +320,12 @@ impl<'a> Findings<'a> {
             × (self.new.position ≡ self.old.position) × (self.new.tally ≡ self.old.tally) }
         ensures storage { OnlyReads result (S.state image.old) (S.state image.new) }
     {
-        let counter = self.counters.get_in_order(image, HostCluster(cluster))?;
         let cell = self.tally.as_ref().unwrap().cell(cluster);
+        let counter = if count_of(cell) == 0 {
+            self.counters.get_unused(image, HostCluster(cluster))?
+        } else {
+            self.counters.get_in_order(image, HostCluster(cluster))?
+        };
         Ok(Finding {
             cluster: HostCluster(cluster),
             counter,
@@ -345,17 +349,20 @@ impl<'a> Findings<'a> {
             let next = tally.next_used(self.position, tally.end());
             return self.counters.free_end(HostCluster(self.position), next);
         }
-        if let Some(block) = self.counters.kept_for(HostCluster(self.position)) {
-            let index = HostCluster(self.position).rb_index(self.header.rb_bits());
-            prove!(index < block.entries());
-            let left = (tally.end() - self.position) as usize;
-            let count = left.min(block.entries() - index);
-            return self.position + right_clusters(block, tally, self.position, index, count) as u64;
+        let position = HostCluster(self.position);
+        match self.counters.kept_for(position) {
+            Some(block) if !self.counters.is_counted_again(position) => {
+                let index = position.rb_index(self.header.rb_bits());
+                prove!(index < block.entries());
+                let left = (tally.end() - position.0) as usize;
+                let count = left.min(block.entries() - index);
+                position.0 + right_clusters(block, tally, position.0, index, count) as u64
+            }
+            _ => {
+                let free = self.counters.free_end(position, tally.end());
+                tally.next_used(position.0, free)
+            }
         }
-        let free = self
-            .counters
-            .free_end(HostCluster(self.position), tally.end());
-        tally.next_used(self.position, free)
     }
 
     // Moves the reader past a counted cluster that may be wrong, and returns the cluster's finding if it is.

@@ -36,5 +36,7 @@ pub use totals::Totals;
 pub use use_sink::UseSink;
 pub use uses::{Use, UseKind};
 pub use verdict::Verdict;
-pub use walk::{walk_blocks, walk_guest, walk_header, walk_l2_tables, walk_tables, walk_uses};
+pub use walk::{
+    walk_blocks, walk_guest, walk_guest_once, walk_header, walk_l2_tables, walk_tables, walk_uses,
+};
 pub use windows::Windows;

@@ -1,17 +1,57 @@
-//! L2 tables that several L1 entries name, so that each is read only once.
+//! L2 tables and refcount blocks that several entries name, so that each is read or reported only once.
 
-ghost use Rattle.std.specs.Prelude.{◌≡◌, ℕ, ◌+◌, ◌*◌, ◌^◌, ◌<◌, ◌≤◌, false, IfOk, IsTrue, length, replicate, slice_index};
+ghost use Rattle.std.specs.Prelude.{◌≡◌, ℕ, ◌+◌, ◌*◌, ◌^◌, ◌<◌, ◌≤◌, List, false, IfOk, IsTrue, length, replicate, slice_index};
 ghost use Rattle.std.specs.List.{range_with_len};
 ghost use Rattle.qcow2_metadata.specs.Entries.{offset_field};
 ghost use Rattle.qcow2_check.specs.Repeats.{ArePlacesInOrder, AreTimesOf, is_again, sort_key, table_names};
 
 use qcow2_base::{Fault, HostOffset};
-use qcow2_metadata::{L1Table, Table};
+use qcow2_metadata::{L1Table, RefTable, Table};
 use std::alloc::{AllocError, Global};
 use std::marker::Model;
 
-/// How often L2 tables count at the L1 entries that name them: at the first of these for all of them, and 0
-/// times at the others. Contracts see a number for each L1 entry, or none at all if each counts once.
+/// A table whose entries name L2 tables or refcount blocks.
+pub trait NamesOffsets {
+    /// The offset that each entry names, 0 if it names none.
+    ghost names: { Self → List ℕ };
+
+    /// The number of entries.
+    fn count(&self) -> usize
+        ensures { result ≡ length (names self.now) };
+
+    /// The offset that the entry at an index names, 0 if it names none.
+    fn offset_at(&self, index: usize) -> u64
+        requires { index < length (names self.now) }
+        ensures { result ≡ slice_index (names self.now) index };
+}
+
+impl NamesOffsets for L1Table {
+    ghost names = { λ table. table_names table.numbers };
+
+    fn count(&self) -> usize {
+        self.entries()
+    }
+
+    fn offset_at(&self, index: usize) -> u64 {
+        self.get(index).l2_offset().unwrap_or(HostOffset(0)).0
+    }
+}
+
+impl NamesOffsets for RefTable {
+    ghost names = { λ table. table.numbers };
+
+    fn count(&self) -> usize {
+        self.entries()
+    }
+
+    fn offset_at(&self, index: usize) -> u64 {
+        self.get(index).refblock_offset().unwrap_or(HostOffset(0)).0
+    }
+}
+
+/// How often L2 tables or refcount blocks count at the entries that name them: at the first of these for all
+/// of them, and 0 times at the others. Contracts see a number for each entry, or none at all if each counts
+/// once.
 #[derive(Drop)]
 pub struct Repeats {
     times: Vec<u32>,
@@ -25,22 +65,14 @@ impl Model for Repeats {
     ghost view = { λ r. r.times.items };
 }
 
-// The offset of the L2 table that the entry at an index of an L1 table names, 0 if it names none.
-fn offset_at(l1_table: &L1Table, index: usize) -> u64
-    requires { index < length l1_table.now.numbers }
-    ensures { result ≡ offset_field (slice_index l1_table.now.numbers index) }
-{
-    l1_table.get(index).l2_offset().unwrap_or(HostOffset(0)).0
-}
-
-// Whether all offsets in an L1 table but 0 ascend, so that none stands there twice.
-fn are_ascending(l1_table: &L1Table) -> bool
-    ensures { IsTrue result → let names = table_names l1_table.now.numbers in
+// Whether all offsets that a table names ascend, so that none stands there twice.
+fn are_ascending<T: NamesOffsets>(table: &T) -> bool
+    ensures { IsTrue result → let names = T.names table.now in
         (index : ℕ) → index < length names → 0 < slice_index names index → is_again names index ≡ false }
 {
     let mut last = 0;
-    for index in 0..l1_table.entries() {
-        let offset = offset_at(l1_table, index);
+    for index in 0..table.count() {
+        let offset = table.offset_at(index);
         if offset != 0 && offset <= last {
             return false;
         }
@@ -97,37 +129,36 @@ fn gather(offsets: &[u64], order: &[u32], times: &mut [u32])
     }
 }
 
-// The offsets of the L2 tables that the entries of an L1 table name, 0 if one names none.
-fn table_offsets(l1_table: &L1Table) -> Result<Vec<u64>, AllocError>
-    ensures { IfOk result (λ offsets. offsets.items ≡ table_names l1_table.now.numbers) }
+// The offsets that the entries of a table name, 0 if one names none.
+fn table_offsets<T: NamesOffsets>(alloc: Global, table: &T) -> Result<Vec<u64>, AllocError>
+    ensures { IfOk result (λ offsets. offsets.items ≡ T.names table.now) }
 {
-    let mut offsets = Vec::with_capacity(l1_table.allocator(), l1_table.entries())?;
-    for index in 0..l1_table.entries() {
-        offsets.push(offset_at(l1_table, index))?;
+    let mut offsets = Vec::with_capacity(alloc, table.count())?;
+    for index in 0..table.count() {
+        offsets.push(table.offset_at(index))?;
     }
     Ok(offsets)
 }
 
 impl Repeats {
     ghost use Rattle.std.specs.Prelude.{◌≡◌, ◌≤◌, ◌^◌, IfOk, IsOkUnless, length};
-    ghost use Rattle.qcow2_base.specs.Format.{most_l1_entries};
     ghost use Rattle.qcow2_base.specs.declared.fault.Fault.TheVariants.{NoMemory};
-    ghost use Rattle.qcow2_check.specs.Repeats.{AreTimesOf, table_names, times_at};
+    ghost use Rattle.qcow2_check.specs.Repeats.{AreTimesOf, times_at};
 
-    /// The counts of the L2 tables that an L1 table names. Takes memory only if their offsets don't ascend,
-    /// and fails only if it runs out (fault 35).
-    pub fn new(l1_table: &L1Table) -> Result<Repeats, Fault>
-        requires { length l1_table.now.numbers ≤ most_l1_entries }
+    /// The counts of the L2 tables or blocks that a table names. Takes memory only if their offsets don't
+    /// ascend, and fails only if it runs out (fault 35).
+    pub fn new<T: NamesOffsets>(alloc: Global, table: &T) -> Result<Repeats, Fault>
+        requires { length (T.names table.now) ≤ 2 ^ 22 }
         ensures fault { IsOkUnless result NoMemory }
-        ensures counts { IfOk result (AreTimesOf (table_names l1_table.now.numbers)) }
+        ensures counts { IfOk result (AreTimesOf (T.names table.now)) }
     {
-        if are_ascending(l1_table) {
+        if are_ascending(table) {
             return Ok(Repeats {
-                times: Vec::new(l1_table.allocator()),
+                times: Vec::new(alloc),
             });
         }
-        let offsets = table_offsets(l1_table)?;
-        Ok(Repeats::of(l1_table.allocator(), &offsets)?)
+        let offsets = table_offsets(alloc, table)?;
+        Ok(Repeats::of(alloc, &offsets)?)
     }
 
     // The counts of these offsets.
@@ -141,8 +172,8 @@ impl Repeats {
         Ok(Repeats { times })
     }
 
-    /// How often the L2 table that the L1 entry at an index names counts there: 0 times if an entry before it
-    /// names the table too. Says nothing if the entry names none.
+    /// How often the L2 table or block that the entry at an index names counts there: 0 times if an entry
+    /// before it names the same. Says nothing if the entry names none.
     #[inline]
     pub fn times(&self, index: usize) -> u32
         ensures { result ≡ times_at self.now index }
@@ -151,7 +182,7 @@ impl Repeats {
     }
 
     /// How many bytes of memory the counts take.
-    pub(crate) fn bytes(&self) -> usize {
+    pub fn bytes(&self) -> usize {
         self.times.len().saturating_mul(size_of::<u32>())
     }
 }

@@ -8,11 +8,13 @@ ghost use Rattle.qcow2_metadata.specs.Placed.{numbers_at};
 ghost use Rattle.qcow2_metadata.specs.Results.{Reads, result_map};
 ghost use Rattle.qcow2_metadata.specs.Table.{IsEntryFault, l2_layout, loaded_l2_table};
 ghost use Rattle.qcow2_check.specs.NamedTables.{IsInImage};
+ghost use Rattle.qcow2_check.specs.Repeats.{AreTimesOf, table_names};
 ghost use Rattle.qcow2_check.specs.Uses.{all_load, l1_entry_loads};
-ghost use Rattle.qcow2_check.specs.Walk.{IsOwned, Took, block_list, entries_list, guest_list, header_list, l1_list, list_from, table_list, tables_list, use_list};
+ghost use Rattle.qcow2_check.specs.Walk.{IsOwned, Took, block_list, entries_list, guest_list, header_list, l1_list, list_from, table_list, tables_list, unrepeated_list, use_list};
 
 use crate::image_tables::ImageTables;
 use crate::named_tables::{load_l2_table, named_block, named_cluster};
+use crate::repeats::Repeats;
 use crate::use_sink::UseSink;
 use crate::uses::{Use, UseKind};
 use qcow2_base::{ClusterCount, Fault, HostCluster, Storage};
@@ -166,6 +168,30 @@ pub fn walk_guest<S: Storage, U: UseSink>(
 {
     for index in 0..tables.l1_table.entries() {
         walk_l1_entry(tables, image, sink, index)?;
+    }
+    Ok(())
+}
+
+/// Takes the references of all L2 entries as `walk_guest` does, but leaves out L2 tables that an earlier L1
+/// entry names too, so that each table is read once. `repeats` must be those of the L1 table.
+///
+/// Fails with the fault of an L2 table that doesn't load, or if memory runs out. Changes no byte.
+pub fn walk_guest_once<S: Storage, U: UseSink>(
+    tables: &ImageTables<'_>,
+    repeats: &Repeats,
+    image: &mut S,
+    sink: &mut U,
+) -> Result<(), Fault>
+    requires { AreTimesOf (table_names tables.now.l1) repeats.now }
+    ensures reads { Reads (λ done. done) result (all_load (geometry_of tables.now.header) tables.now.l1)
+        IsEntryFault (S.state image.old) (S.state image.new) }
+    ensures taken { OnOk result (Took U.takes (S.state image.old)
+        (unrepeated_list tables.now repeats.now) sink.old sink.new) }
+{
+    for index in 0..tables.l1_table.entries() {
+        if repeats.times(index) > 0 {
+            walk_l1_entry(tables, image, sink, index)?;
+        }
     }
     Ok(())
 }

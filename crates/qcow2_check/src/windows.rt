@@ -128,7 +128,7 @@ impl Windows {
             × (tally.end ≤ max_file_length)) }
         ensures same { self.new ≡ record self.old { is_sparse = self.new.is_sparse } }
     {
-        let repeats = Repeats::new(tables.l1_table)?;
+        let repeats = Repeats::new(tables.l1_table.allocator(), tables.l1_table)?;
         let mut marks = Marks::none(tables.l1_table.allocator());
         self.count_and_mark(image, tables, &repeats, first, &mut marks)
     }

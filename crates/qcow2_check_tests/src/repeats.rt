@@ -1,8 +1,10 @@
-//! L2 tables that several L1 entries name: their references count for each entry, and each table is read
-//! once.
+//! L2 tables that several L1 entries name, whose references count for each entry and which are read once, and
+//! refcount blocks that several entries of the refcount table name.
 
+use crate::layout::runs_of;
 use crate::readers::{findings_of, flags_of};
-use qcow2_base::{Fault, MemStorage};
+use qcow2_base::{Fault, GuestOffset, HostCluster, MemStorage};
+use qcow2_layout::{Part, Run};
 use qcow2_testing::damages::{FoundCluster, FoundFlag, FoundPlace};
 use qcow2_testing::{
     COPIED, FailingStorage, Numbers, VERSION_3, each, image_with, put_all, recorded, rows, same,
@@ -12,9 +14,11 @@ use std::test::Fail;
 
 const COMPRESSED: u64 = 1 << 62;
 
-// The offsets of the L1 table, of the only refcount block and of two L2 tables, in clusters of 64 KiB, and
-// one in each L2 table that only a read of the whole table reaches.
+// The offsets of the L1 table, of the refcount table, of the only refcount block and of two L2 tables, in
+// clusters of 64 KiB, and one in each L2 table that only a read of the whole table reaches.
 const L1_TABLE: u64 = 0x1_0000;
+
+const REFCOUNT_TABLE: u64 = 0x2_0000;
 
 const BLOCK: u64 = 0x3_0000;
 
@@ -30,7 +34,7 @@ const SAMPLE: Numbers<'static> = &[
     (24, 6 << 29),
     (32, 6),
     (40, L1_TABLE),
-    (48, 0x2_0000),
+    (48, REFCOUNT_TABLE),
     (56, 1 << 32),
     (96, 0x0000_0004_0000_0068),
     (L1_TABLE, TABLES[1]),
@@ -38,7 +42,7 @@ const SAMPLE: Numbers<'static> = &[
     (L1_TABLE + 24, TABLES[1]),
     (L1_TABLE + 32, TABLES[0]),
     (L1_TABLE + 40, TABLES[1]),
-    (0x2_0000, BLOCK),
+    (REFCOUNT_TABLE, BLOCK),
     (BLOCK, 0x0001_0001_0001_0001),
     (BLOCK + 8, 0x0000_0002_0003_0003),
     (BLOCK + 16, 0x0003_0000_0002_0000),
@@ -88,6 +92,15 @@ const FOUND: &[Found<'static>] = rows! { Found:
         clusters: &[cluster!(5, 2, 4, true)] },
     { name: "clusters that no block counts", changes: &[(TABLES[1] + 16, 1 << 40)],
         clusters: &[cluster!(1 << 24, 0, 3, false)] },
+    { name: "a block that the refcount table names again", changes: &[(REFCOUNT_TABLE + 16, BLOCK)],
+        clusters: &[cluster!(3, 1, 2, true)] },
+    { name: "a leak in such a block", changes: &[(REFCOUNT_TABLE + 16, BLOCK), (BLOCK + 24, 1 << 32)],
+        clusters: &[cluster!(3, 1, 2, true), cluster!(13, 1, 0, false)] },
+    { name: "used clusters in the later range of such a block",
+        changes: &[(REFCOUNT_TABLE + 16, BLOCK), (TABLES[0] + 24, 0x1_0005_0000),
+            (TABLES[0] + 32, 0x1_0006_0000), (TABLES[1] + 16, 0x1_0009_0000)],
+        clusters: &[cluster!(3, 1, 2, true), cluster!(0x1_0006, 3, 2, false),
+            cluster!(0x1_0009, 0, 3, false)] },
 };
 
 fn check_found(alloc: Global, row: Found<'_>) -> Result<(), Fail> {
@@ -152,6 +165,71 @@ fn a_wrong_flag_is_listed_once_and_its_table_read_twice(rt: HostRuntime) -> Resu
 }
 
 #[derive(Clone, Copy)]
+struct Laid<'a> {
+    name: &'a str,
+    changes: Numbers<'a>,
+    runs: &'a [Run],
+    // How often each table is read: once for each window of clusters.
+    reads: usize,
+}
+
+// Makes the runs of an image: those of its header and tables, with a free cluster between them, and then
+// these, each from its first cluster, its number of clusters and its part.
+macro_rules! runs {
+    ($($first:literal + $count:literal $part:expr),* $(,)?) => {
+        &[
+            Run { first: HostCluster(0), count: 1, part: Part::Header },
+            Run { first: HostCluster(1), count: 1, part: Part::L1Table },
+            Run { first: HostCluster(2), count: 1, part: Part::RefcountTable },
+            Run { first: HostCluster(3), count: 1, part: Part::RefcountBlock },
+            Run { first: HostCluster(4), count: 1, part: Part::Free },
+            Run { first: HostCluster(5), count: 2, part: Part::L2Table },
+            $(Run { first: HostCluster($first), count: $count, part: $part }),*
+        ]
+    };
+}
+
+// Guest data of the first entry of the second table, which L1 entry 0 names, and of the third entry of the
+// first table, which L1 entry 1 names.
+const FIRST: Part = Part::Data(GuestOffset(0));
+
+const THIRD: Part = Part::Data(GuestOffset((1 << 29) + (2 << 16)));
+
+// The same, as L1 entries 3 and 4 name the tables.
+const LATER_FIRST: Part = Part::Data(GuestOffset(3 << 29));
+
+const LATER_THIRD: Part = Part::Data(GuestOffset((4 << 29) + (2 << 16)));
+
+const LAID: &[Laid<'static>] = rows! { Laid:
+    { name: "both tables named again", changes: &[], reads: 1,
+        runs: runs! { 7 + 1 FIRST, 8 + 1 Part::Compressed, 9 + 1 Part::Free, 10 + 1 THIRD } },
+    { name: "tables that later L1 entries alone name",
+        changes: &[(L1_TABLE, 0), (L1_TABLE + 8, 0)], reads: 1,
+        runs: runs! { 7 + 1 LATER_FIRST, 8 + 1 Part::Compressed, 9 + 1 Part::Free, 10 + 1 LATER_THIRD } },
+    { name: "a cluster that both tables name",
+        changes: &[(TABLES[0] + 16, 7 << 16), (TABLES[0] + 24, COMPRESSED | 7 << 16)], reads: 1,
+        runs: runs! { 7 + 1 FIRST, 8 + 1 Part::Compressed, 9 + 1 Part::Free, 10 + 1 Part::Leaked } },
+    { name: "a table that names itself and the other one",
+        changes: &[(TABLES[0] + 24, TABLES[0]), (TABLES[0] + 32, TABLES[1])], reads: 1,
+        runs: runs! { 7 + 1 FIRST, 8 + 1 Part::Compressed, 9 + 1 Part::Free, 10 + 1 THIRD } },
+    { name: "a cluster of the second window", changes: &[(TABLES[1] + 16, 1 << 40)], reads: 2,
+        runs: runs! { 7 + 1 FIRST, 8 + 1 Part::Compressed, 9 + 1 Part::Free, 10 + 1 THIRD,
+            11 + 16777205 Part::Free, 16777216 + 1 Part::Data(GuestOffset(2 << 16)) } },
+};
+
+fn check_laid(alloc: Global, row: Laid<'_>) -> Result<(), Fail> {
+    let mut image = sample(alloc, row.changes)?;
+    let found = runs_of(alloc, &mut image)?;
+    same(found.as_slice(), row.runs, row.name)?;
+    same(reads_of_tables(&image), [row.reads; 2], row.name)
+}
+
+#[test]
+fn a_layout_goes_by_the_first_l1_entry_and_reads_a_table_once(rt: HostRuntime) -> Result<(), Fail> {
+    each(rt.alloc(), LAID, check_laid)
+}
+
+#[derive(Clone, Copy)]
 struct Refused<'a> {
     name: &'a str,
     changes: Numbers<'a>,
@@ -168,7 +246,9 @@ const REFUSED: &[Refused<'static>] = rows! { Refused:
 fn check_refused(alloc: Global, row: Refused<'_>) -> Result<(), Fail> {
     let mut image = sample(alloc, row.changes)?;
     let found = findings_of(alloc, &mut image);
-    same(found.err(), Some(row.fault), row.name)
+    same(found.err(), Some(row.fault), row.name)?;
+    let laid = runs_of(alloc, &mut image);
+    same(laid.err(), Some(row.fault), row.name)
 }
 
 #[test]

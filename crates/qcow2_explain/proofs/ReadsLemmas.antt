@@ -24,6 +24,11 @@ pub reads-fault : {A B : Type 0} (fault : Fault) (old new : StorageState) →
     ReadsFor (IsErrOf {T = A} (Err fault) Storage) old new → ReadsFor (IsErrOf {T = B} (Err fault) Storage) old new
 reads-fault fault old new reads = grind (arith, nat_tests, reads)
 
+-- reads that returned a value, after which another is returned
+pub reads-found : {A B : Type 0} (value : A) (other : B) (old new : StorageState) →
+    ReadsFor (IsErrOf {T = A} (Ok value) Storage) old new → ReadsFor (IsErrOf {T = B} (Ok other) Storage) old new
+reads-found value other old new reads = grind (arith, nat_tests, reads)
+
 -- reads that ended in a fault other than the storage's, of which only the fault of a failed one is known
 pub reads-other : {A : Type 0} (fault : Fault) (old new : StorageState) →
     fault ≢ Storage → ReadsFor (IsErrOf {T = A} (Err fault) Storage) old new → ReadsFor ⊥ old new

@@ -4,6 +4,7 @@ use Rattle.qcow2_base.specs.Format.{most_l1_entries}
 use Rattle.qcow2_base.specs.Storage.{Image}
 use Rattle.qcow2_base.specs.declared.fault.Fault.{Fault}
 use Rattle.qcow2_base.specs.declared.fault.Fault.TheVariants.{NoMemory, Storage}
+use Rattle.qcow2_base.specs.declared.types.HostCluster.{HostCluster}
 use Rattle.qcow2_metadata.specs.Header.{Geometry, HeaderRecord, geometry_of}
 use Rattle.qcow2_metadata.specs.Table.{TableState, l2_entries, loaded_l2_table}
 use Rattle.qcow2_check.specs.NamedTables.{named_cluster}
@@ -49,8 +50,19 @@ TellsTable before after (Ok None) = before ≡ []
 TellsTable before after (Ok (Some found)) = before ≡ (found.0, Ok found.1.numbers) ∷ after
 TellsTable before after (Err fault) = RefusesTable before fault
 
+-- an L1 entry of a walk, by its index, names the L2 table at a cluster
+pub record IsPlaceOf (walk : WalkState) (found : ℕ × HostCluster) : Type 0 where
+  pub index : found.0 < most_l1_entries
+  pub cluster : Some found.1 ≡ named_cluster walk.header.v2.cluster_bits (slice_index walk.l1 found.0)
+
+-- what a walk passes: none at its end, else the first of the tables that were left, which begins with this cluster
+abbrev pub PassesTable : WalkState → WalkState → Option (ℕ × HostCluster) → Type 0
+PassesTable old new None = (image : Image) → tables_left old image ≡ []
+PassesTable old new (Some found) = (image : Image) →
+    tables_left old image ≡ (found.0, loaded_l2_table (geometry_of old.header) found.1 image) ∷ tables_left new image
+
 -- how far a walk goes by an answer: just past the table that it finds. At the end and after a fault it is where it was
-pub record GoesOn (answer : Result (Option (ℕ × TableState)) Fault) (old new : WalkState) : Type 0 where
+pub record GoesOn {T : Type 0} (answer : Result (Option (ℕ × T)) Fault) (old new : WalkState) : Type 0 where
   pub same : new ≡ record old { index = new.index }
   pub within : new.index ≤ length old.l1
   pub further : IfOk answer (λ next. MatchOption next (new ≡ old) (λ found. (old.index ≤ found.0) × (new.index ≡ found.0 + 1)))

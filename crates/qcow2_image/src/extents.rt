@@ -12,10 +12,11 @@ ghost use Rattle.qcow2_check.specs.NamedTables.{IsInImage, l1_cluster, l1_layout
 ghost use Rattle.qcow2_image.specs.Lookups.{l2_cluster};
 ghost use Rattle.qcow2_image.specs.Extents.{AreInOneTable, HasNoTable, IsKeptOf, IsPiece, content_in, contents_in, kept_numbers, moved_on};
 
+use crate::kept_table::KeptTable;
 use crate::lookups::{l2_cluster, next_named};
 use qcow2_base::{Fault, GuestOffset, HostCluster, HostOffset, Storage};
 use qcow2_check::{load_l1_table, load_l2_table};
-use qcow2_metadata::{Header, L1Table, L2Mapping, L2Table, Table};
+use qcow2_metadata::{Header, L1Table, L2Mapping, Table};
 use std::alloc::Global;
 use std::marker::Model;
 
@@ -118,16 +119,18 @@ fn gap_end(l1_table: &L1Table, from: u64, size: u64) -> u64
 // in this table, at most the disk's size. Always returns `Ok`.
 #[inline(always)]
 #[tactic(auto, using(crate::proofs::ExtentsLemmas::distance_below))]
-fn piece_of_table(table: &L2Table, from: u64, size: u64) -> Result<(Content, u64), Fault>
+fn piece_of_table(kept: &mut KeptTable, from: u64, size: u64) -> Result<(Content, u64), Fault>
     requires { from < size }
-    ensures { IsOkAnd result (λ piece. IsPiece (contents_in table.now) size from piece
-        × AreInOneTable table.now.geometry.cluster_bits from piece.1) }
+    ensures piece { IsOkAnd result (λ piece. IsPiece (contents_in kept.old) size from piece
+        × AreInOneTable kept.old.geometry.cluster_bits from piece.1) }
+    ensures table { kept.new ≡ kept.old }
 {
-    let cluster_bits = table.cluster_bits();
+    let cluster_bits = kept.table().cluster_bits();
     let guest_cluster = GuestOffset(from).cluster(cluster_bits);
     let distance = GuestOffset(from).in_cluster_offset(cluster_bits);
-    let content = Content::within(table.get_mapping(guest_cluster)?, distance, cluster_bits);
-    let run = table.run_length(guest_cluster).byte_size(cluster_bits) - distance;
+    let mapping = kept.table().get_mapping(guest_cluster)?;
+    let content = Content::within(mapping, distance, cluster_bits);
+    let run = kept.run_length(guest_cluster).byte_size(cluster_bits) - distance;
     Ok((content, from + run.min(size - from)))
 }
 
@@ -138,7 +141,7 @@ pub struct Extents<'a> {
     header: &'a Header,
     l1_table: L1Table,
     position: u64,
-    table: Option<L2Table>,
+    table: Option<KeptTable>,
     // The content and end from the position on, if `next` has read them to see that the extent before ends
     // there.
     ahead: Option<(Content, u64)>,
@@ -168,7 +171,7 @@ impl<'a> Model for Extents<'a> {
 // Makes `kept` the L2 table that begins with a cluster: leaves it if it is that one, or else loads it by
 // `L2Table::load`. A fault leaves `None`.
 fn keep_table<S: Storage>(
-    kept: &mut Option<L2Table>,
+    kept: &mut Option<KeptTable>,
     image: &mut S,
     header: &Header,
     alloc: Global,
@@ -186,13 +189,13 @@ fn keep_table<S: Storage>(
         (S.state image.old) (S.state image.new) }
 {
     let is_kept = match kept {
-        Some(table) => table.get_cluster() == Some(cluster),
+        Some(kept) => kept.table().get_cluster() == Some(cluster),
         None => false,
     };
     if !is_kept {
         // Frees its memory before the next table takes as much.
         *kept = None;
-        *kept = Some(load_l2_table(alloc, image, header, cluster)?);
+        *kept = Some(KeptTable::new(load_l2_table(alloc, image, header, cluster)?));
     }
     Ok(())
 }
@@ -264,7 +267,7 @@ impl<'a> Extents<'a> {
         };
         let alloc = self.l1_table.allocator();
         keep_table(&mut self.table, image, self.header, alloc, cluster)?;
-        piece_of_table(self.table.as_ref().unwrap(), from, size)
+        piece_of_table(self.table.as_mut().unwrap(), from, size)
     }
 
     // Moves past the extent at the position, and returns its content.

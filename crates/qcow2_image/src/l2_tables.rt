@@ -1,13 +1,13 @@
 //! A walk over the L2 tables of an image.
 
-ghost use Rattle.std.specs.Prelude.{IfOk, IfSome};
+ghost use Rattle.std.specs.Prelude.{Ok, IfOk, IfSome};
 ghost use Rattle.qcow2_base.specs.Storage.{OnImage, OnlyReads};
 ghost use Rattle.qcow2_metadata.specs.Results.{Reads};
 ghost use Rattle.qcow2_metadata.specs.Table.{IsTableFault};
 ghost use Rattle.qcow2_check.specs.NamedTables.{l1_cluster, l1_layout, loaded_l1_table};
 
 use crate::lookups::next_named;
-use qcow2_base::{Fault, Storage};
+use qcow2_base::{Fault, HostCluster, Storage};
 use qcow2_check::{load_l1_table, load_l2_table, named_cluster};
 use qcow2_metadata::{Header, L1Table, L2Table, Table};
 use std::alloc::Global;
@@ -39,7 +39,7 @@ impl<'a> Model for L2Tables<'a> {
 
 impl<'a> L2Tables<'a> {
     ghost use Rattle.std.specs.Prelude.{◌≡◌};
-    ghost use Rattle.qcow2_image.specs.L2Tables.{GoesOn, IsTableOf, TellsTable, tables_left};
+    ghost use Rattle.qcow2_image.specs.L2Tables.{GoesOn, IsPlaceOf, IsTableOf, PassesTable, TellsTable, tables_left};
 
     /// Returns a walk over the L2 tables of an image with this header, before the first one. Reads the L1
     /// table, and returns its fault if that is refused. Changes no byte.
@@ -70,13 +70,31 @@ impl<'a> L2Tables<'a> {
         ensures walk { GoesOn result self.old self.new }
         ensures storage { OnlyReads result (S.state image.old) (S.state image.new) }
     {
-        let Some(index) = next_named(&self.l1_table, self.index) else {
+        let before = self.index;
+        let Some((index, cluster)) = self.pass() else {
             return Ok(None);
         };
-        let cluster = named_cluster(&self.l1_table, index).unwrap();
         let alloc = self.l1_table.allocator();
-        let table = load_l2_table(alloc, image, self.header, cluster)?;
+        match load_l2_table(alloc, image, self.header, cluster) {
+            Ok(table) => Ok(Some((index, table))),
+            Err(fault) => {
+                self.index = before;
+                Err(fault)
+            }
+        }
+    }
+
+    /// Goes past the next L2 table without reading it. Returns the index of its L1 entry and its first
+    /// cluster, or `None` after the last table.
+    pub fn pass(&mut self) -> Option<(usize, HostCluster)>
+        ensures passed { PassesTable self.old self.new result }
+        ensures place { IfSome result (IsPlaceOf self.old) }
+        ensures walk { GoesOn (Ok result) self.old self.new }
+    {
+        let Some(index) = next_named(&self.l1_table, self.index) else {
+            return None;
+        };
         self.index = index + 1;
-        Ok(Some((index, table)))
+        Some((index, named_cluster(&self.l1_table, index).unwrap()))
     }
 }

@@ -45,6 +45,12 @@ pub reads-fail : {A B C : Type 0} (value : A) (fault : Fault) (first second thir
     → OnlyReads {T = A} (Ok value) first second → OnlyReads {T = B} (Err fault) second third → OnlyReads {T = C} (Err fault) first third
 reads-fail value fault first second third one two = grind arith
 
+-- what was opened has no part that isn't read, so a later fault can be any
+pub opened-whole : {T U : Type 0} (opened : T) (answer : Result U Fault) (part : Option UncountedPart)
+    → IfSome part (λ (it : UncountedPart). Ok opened ≡ Err (Uncounted it)) → IfSome part (λ (it : UncountedPart). answer ≡ Err (Uncounted it))
+opened-whole opened answer None is = tt
+opened-whole opened answer (Some it) is = absurd (grind (arith, is))
+
 -- a fault of one call is that of the call around it
 pub uncounted-too : (A B : Type 0) (fault : Fault) (part : Option UncountedPart) → IfSome part (λ p. ◌≡◌ {A = Result A Fault} (Err fault) (Err (Uncounted p)))
     → IfSome part (λ p. ◌≡◌ {A = Result B Fault} (Err fault) (Err (Uncounted p)))

@@ -4,7 +4,7 @@ use Rattle.std.proofs.Math.Nat.{add-mul, le-div_iff_mul-le, zero-mul}
 use Rattle.std.proofs.lemmas.Nat.{mul-le, pow_pos}
 use Rattle.qcow2_base.specs.Format.{max_file_length}
 use Rattle.qcow2_base.specs.Storage.{Image, OnImage, OnlyReads, StorageState}
-use Rattle.qcow2_check.specs.Counters.{counter_of}
+use Rattle.qcow2_check.specs.Counters.{unused_counter}
 use Rattle.qcow2_summary.specs.ImageEnd.{most_clusters}
 use Rattle.qcow2_check.specs.Tally.{TallyState, cell_at}
 use Rattle.qcow2_check.specs.Uses.{ImageTables}
@@ -153,7 +153,7 @@ used-run reader window image limit from to part has reads first some end used is
 -- a cluster that has no use is free or leaked
 pub counted-piece : (reader : LayoutState) (window : TallyState) (image : Image) (from counter : ℕ) (part : Part) → reader.window ≡ Some window → IsLayoutOf image reader
     → window.first ≤ from → from < window.end → cell_at window from ≡ 0
-    → counter ≡ counter_of reader.header reader.counters.reftable image from → part ≡ unused_part counter
+    → counter ≡ unused_counter reader.header reader.counters.reftable image from → part ≡ unused_part counter
     → IsStretch reader.header.v2.cluster_bits (parts_for reader image) from (part, from + 1)
 counted-piece reader window image from counter part has reads first end none counts says =
     let placed : PlacesAll (layout_tables reader) image window = rw has at reads.placed in
@@ -165,8 +165,8 @@ counted-piece reader window image from counter part has reads first end none cou
 pub free-piece : (reader : LayoutState) (window : TallyState) (image : Image) (from to : ℕ) → reader.window ≡ Some window → IsLayoutOf image reader
     → window.first ≤ from → from < to → to ≤ window.end → cell_at window from ≡ 0
     → ((c : ℕ) → from + 1 ≤ c → c < to → cell_at window c ≡ 0)
-    → counter_of reader.header reader.counters.reftable image from ≡ 0
-    → ((c : ℕ) → from + 1 ≤ c → c < to → counter_of reader.header reader.counters.reftable image c ≡ 0)
+    → unused_counter reader.header reader.counters.reftable image from ≡ 0
+    → ((c : ℕ) → from + 1 ≤ c → c < to → unused_counter reader.header reader.counters.reftable image c ≡ 0)
     → IsStretch reader.header.v2.cluster_bits (parts_for reader image) from (Free, to)
 free-piece reader window image from to has reads first some end none unused zero zeros = (
   some,

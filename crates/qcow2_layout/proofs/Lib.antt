@@ -6,4 +6,5 @@ mod PictureExamples
 pub mod PictureLemmas
 pub mod PlacesLemmas
 pub mod ShadesLemmas
+pub mod UnrepeatedLemmas
 pub mod WindowLemmas

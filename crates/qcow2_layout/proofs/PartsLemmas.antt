@@ -5,7 +5,7 @@ use Rattle.std.proofs.lemmas.Bool.Decides.{nat_tests}
 use Rattle.std.proofs.lemmas.List.Elements.{All-head, All-tail}
 use Rattle.std.proofs.lemmas.Nat.{mul-lt, pow_pos}
 use Rattle.qcow2_base.specs.Storage.{Image}
-use Rattle.qcow2_check.specs.Counters.{counter_of}
+use Rattle.qcow2_check.specs.Counters.{unused_counter}
 use Rattle.qcow2_check.specs.Uses.{ImageTables}
 use Rattle.qcow2_check.specs.Walk.{IsOwned, most_owners, use_list}
 use Rattle.qcow2_check.specs.declared.uses.Use.{Use}
@@ -117,7 +117,7 @@ unfolding part_at
 at-use tables image c used is = rw (is, part_at) refl
 
 pub at-none : (tables : ImageTables) (image : Image) (c : ℕ) → use_in (use_list tables image) c ≡ None
-    → part_at tables image c ≡ unused_part (counter_of tables.header tables.reftable image c)
+    → part_at tables image c ≡ unused_part (unused_counter tables.header tables.reftable image c)
 unfolding part_at
 at-none tables image c is = rw (is, part_at) refl
 
@@ -133,7 +133,7 @@ at-encoded tables image c = by_use (use_in (use_list tables image) c) refl
     by_use (Some used) is =
         rw is (ap (λ p. encoded cb p) (at-use tables image c used is) ∙ part-encoded cb used.kind used.owner)
     by_use None is =
-        rw is (ap (λ p. encoded cb p) (at-none tables image c is) ∙ unused-encoded cb (counter_of tables.header tables.reftable image c))
+        rw is (ap (λ p. encoded cb p) (at-none tables image c is) ∙ unused-encoded cb (unused_counter tables.header tables.reftable image c))
 
 -- the first use of a cluster is owned where all are
 pub first-owned : (uses : List Use) (c : ℕ) → All IsOwned uses → IfSome (use_in uses c) IsOwned

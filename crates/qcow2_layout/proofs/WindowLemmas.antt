@@ -39,14 +39,14 @@ pub places_next : (kind : UseKind) (first : HostCluster) (count at owner : ℕ) 
 places_next kind first count at owner a b c from is one other = grind (arith, nat_tests, one, other)
 
 -- a cell that has a use stays
-used-stays : (uses : List Use) (c cell : ℕ) → 0 < cell → fold (cell_after c) cell uses ≡ cell
+pub used-stays : (uses : List Use) (c cell : ℕ) → 0 < cell → fold (cell_after c) cell uses ≡ cell
 used-stays [] c cell some = refl
 used-stays (used ∷ uses) c cell some =
     let same : cell_after c cell used ≡ cell = grind (arith, nat_tests, some) in
     rw same (used-stays uses c cell some)
 
 -- and one that has none is that of the first use that has its cluster
-first-use : (uses : List Use) (c : ℕ) → fold (cell_after c) 0 uses ≡ cell_of (use_in uses c)
+pub first-use : (uses : List Use) (c : ℕ) → fold (cell_after c) 0 uses ≡ cell_of (use_in uses c)
 first-use [] c = refl
 first-use (used ∷ uses) c = by_use (is_among used.clusters c) refl (first-use uses c)
   where

@@ -2,7 +2,7 @@
 use Rattle.std.specs.Prelude.{ℕ, Bool, true, false, not, ◌==◌, ◌*◌, ◌^◌, List, [], ◌∷◌, if◌then◌else◌, Option, Some, None}
 use Rattle.qcow2_base.specs.Storage.{Image}
 use Rattle.qcow2_metadata.specs.Entries.{is_among}
-use Rattle.qcow2_check.specs.Counters.{counter_of}
+use Rattle.qcow2_check.specs.Counters.{unused_counter}
 use Rattle.qcow2_summary.specs.ImageEnd.{end_of, most_clusters}
 use Rattle.qcow2_check.specs.Uses.{ImageTables}
 use Rattle.qcow2_check.specs.Walk.{use_list}
@@ -31,17 +31,17 @@ abbrev pub use_in : List Use → ℕ → Option Use
 use_in [] c = None
 use_in (used ∷ uses) c = if is_among used.clusters c then Some used else use_in uses c
 
--- what a cluster without a use is, by its counter
+-- what a cluster without a use is, by its counter as it is reported
 abbrev pub unused_part : ℕ → Part
 unused_part counter = if counter == 0 then Free else Leaked
 
 -- what cluster c is of an image with these tables: the part of its first use in the order of the walk (header, tables, blocks,
 -- L2 tables, and then the guest's disk in its order), so that tables win over guest data, and the lowest guest offset over others;
--- or leaked where its counter isn't 0, or else free
+-- or leaked where its counter isn't reported as 0, or else free
 unfoldable pub part_at : ImageTables → Image → ℕ → Part
 part_at tables image c = elim (use_in (use_list tables image) c) [
   | Some used ↦ used_part tables.header.v2.cluster_bits used
-  | None ↦ unused_part (counter_of tables.header tables.reftable image c)
+  | None ↦ unused_part (unused_counter tables.header tables.reftable image c)
 ]
 
 -- whether that is free

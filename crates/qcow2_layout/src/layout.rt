@@ -9,7 +9,7 @@ use crate::parts::{Part, Run};
 use crate::window::Window;
 use crate::windows::Windows;
 use qcow2_base::{ClusterCount, Fault, HostCluster, Storage};
-use qcow2_check::{Counters, ImageTables, OpenTables, open_tables};
+use qcow2_check::{Counters, ImageTables, OpenTables, Repeats, open_tables};
 use qcow2_metadata::{Header, L1Table, Table};
 use qcow2_summary::most_clusters;
 use std::alloc::Global;
@@ -25,6 +25,7 @@ const TOGETHER: u64 = 64;
 pub struct Layout<'a> {
     header: &'a Header,
     l1_table: L1Table,
+    repeats: Repeats,
     counters: Counters<'a>,
     window: Option<Window>,
     position: u64,
@@ -35,6 +36,7 @@ impl<'a> Model for Layout<'a> {
     ghost use Rattle.std.specs.Prelude.{◌≡◌, ◌<◌, ◌≤◌, IfSome, length};
     ghost use Rattle.qcow2_base.specs.Format.{max_file_length, most_l1_entries};
     ghost use Rattle.qcow2_metadata.specs.Header.{geometry_of};
+    ghost use Rattle.qcow2_check.specs.Repeats.{AreTimesOf, table_names};
     ghost use Rattle.qcow2_summary.specs.ImageEnd.{most_clusters};
     ghost use Rattle.qcow2_layout.specs.Layout.{LayoutState};
 
@@ -50,6 +52,7 @@ impl<'a> Model for Layout<'a> {
 
     ghost invariant = { λ r. (r.l1_table.geometry ≡ geometry_of r.header.now)
         × (length r.l1_table.numbers ≤ most_l1_entries)
+        × AreTimesOf (table_names r.l1_table.numbers) r.repeats
         × (r.counters.header ≡ r.header.now)
         × (r.position ≤ most_clusters r.header.now)
         × IfSome r.window (λ window. window.end ≤ max_file_length) };
@@ -61,7 +64,7 @@ impl<'a> Layout<'a> {
     ghost use Rattle.qcow2_base.specs.declared.fault.Fault.TheVariants.{Uncounted};
     ghost use Rattle.qcow2_metadata.specs.Header.{uncounted_part};
     ghost use Rattle.qcow2_metadata.specs.Results.{result_map};
-    ghost use Rattle.qcow2_check.specs.Counters.{AreFree};
+    ghost use Rattle.qcow2_check.specs.Counters.{ReportNone};
     ghost use Rattle.qcow2_check.specs.Findings.{IsCheckFault, IsLaterFault, checked_tables};
     ghost use Rattle.qcow2_check.specs.Tally.{cell_at};
     ghost use Rattle.qcow2_summary.specs.ImageEnd.{most_clusters};
@@ -92,11 +95,13 @@ impl<'a> Layout<'a> {
             l1_table: &l1_table,
             reftable: counters.reftable(),
         };
+        let repeats = Repeats::new(alloc, &l1_table)?;
         let mut windows = Windows::new(&tables);
-        let window = windows.place(image, &tables, 0)?;
+        let window = windows.place(image, &tables, &repeats, 0)?;
         Ok(Layout {
             header,
             l1_table,
+            repeats,
             counters,
             window: Some(window),
             position: 0,
@@ -262,14 +267,14 @@ impl<'a> Layout<'a> {
             let end = window.run_end(from).min(most_clusters(self.header));
             return Ok((part, end));
         }
-        let counter = self.counters.get_in_order(image, HostCluster(from))?;
+        let counter = self.counters.get_unused(image, HostCluster(from))?;
         if counter != 0 {
             return Ok((Part::unused(counter), from + 1));
         }
         Ok((Part::Free, self.free_end(from)))
     }
 
-    // The end of clusters from one on that are surely free, given that the first of them is.
+    // The end of clusters from one on that are surely free as they are reported, given that the first is.
     fn free_end(&self, from: u64) -> u64
         requires window { IsSomeAnd self.now.window (λ window. (window.first ≤ from)
             × (from < window.end)) }
@@ -280,7 +285,7 @@ impl<'a> Layout<'a> {
         ensures unused { IsSomeAnd self.now.window (λ window. (c : ℕ) → from + 1 ≤ c → c < result →
             cell_at window c ≡ 0) }
         ensures free { (image : Image) → IsLayoutOf image self.now →
-            AreFree self.now.counters image (from + 1) result }
+            ReportNone self.now.counters image (from + 1) result }
     {
         let window = self.window.as_ref().unwrap();
         let end = window.end().min(most_clusters(self.header));
@@ -325,7 +330,7 @@ impl<'a> Layout<'a> {
             l1_table: &self.l1_table,
             reftable: self.counters.reftable(),
         };
-        let window = self.windows.place(image, &tables, cluster)?;
+        let window = self.windows.place(image, &tables, &self.repeats, cluster)?;
         self.window = Some(window);
         Ok(())
     }

@@ -10,14 +10,16 @@ ghost use Rattle.qcow2_base.specs.declared.fault.Fault.TheVariants.{NoMemory};
 ghost use Rattle.qcow2_metadata.specs.Header.{geometry_of};
 ghost use Rattle.qcow2_metadata.specs.Results.{Reads};
 ghost use Rattle.qcow2_metadata.specs.Table.{IsEntryFault};
+ghost use Rattle.qcow2_check.specs.Repeats.{AreTimesOf, table_names};
 ghost use Rattle.qcow2_check.specs.Uses.{all_load};
 ghost use Rattle.qcow2_check.specs.Walk.{IsOwned, TakesEntries, most_guest_clusters, row_list, use_list};
 ghost use Rattle.qcow2_layout.specs.Window.{PlacesMore};
 
 use crate::window::{TOGETHER, Window};
-use qcow2_base::{Fault, GuestCluster, HostCluster, Storage};
+use qcow2_base::{Fault, GuestCluster, HostCluster, MAX_L1_ENTRIES, Storage};
 use qcow2_check::{
-    ImageTables, Use, UseKind, UseSink, cluster_bounds, entry_at, refers, walk_uses,
+    ImageTables, Repeats, Use, UseKind, UseSink, cluster_bounds, entry_at, refers, walk_guest_once,
+    walk_tables,
 };
 use qcow2_metadata::{L2Table, Table, TableEntry};
 
@@ -125,21 +127,27 @@ impl UseSink for Window {
     } };
 }
 
-/// Places the clusters of all references of an image into a window.
+/// Places the clusters of all references of an image into a window. Reads each L2 table once: where a later
+/// L1 entry names it too, all its clusters have a code already. `repeats` must be those of the L1 table.
 ///
 /// Fails with the fault of an L2 table that doesn't load, or if memory runs out. Changes no byte.
 pub(crate) fn place_image<S: Storage>(
     window: Window,
     image: &mut S,
     tables: &ImageTables<'_>,
+    repeats: &Repeats,
 ) -> Result<Window, Fault>
+    requires { AreTimesOf (table_names tables.now.l1) repeats.now }
     ensures reads { Reads (λ _. tt) result (all_load (geometry_of tables.now.header) tables.now.l1)
         IsEntryFault (S.state image.old) (S.state image.new) }
     ensures placed { IfOk result (λ placed. OnImage (S.state image.old) (λ bytes.
         PlacesMore (use_list tables.now bytes) window placed)) }
     ensures first { IfOk result (λ placed. placed.first ≡ window.first) }
 {
+    prove!(tables.header.cluster_bits() <= 21);
+    prove!(tables.l1_table.entries() <= MAX_L1_ENTRIES);
     let mut placed = window;
-    walk_uses(tables, image, &mut placed)?;
+    walk_tables(tables, &mut placed)?;
+    walk_guest_once(tables, repeats, image, &mut placed)?;
     Ok(placed)
 }

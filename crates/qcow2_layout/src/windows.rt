@@ -7,6 +7,7 @@ ghost use Rattle.qcow2_metadata.specs.Header.{geometry_of};
 ghost use Rattle.qcow2_metadata.specs.Results.{Reads};
 ghost use Rattle.qcow2_metadata.specs.Table.{IsEntryFault};
 ghost use Rattle.qcow2_check.specs.Counters.{IsCountedEnd};
+ghost use Rattle.qcow2_check.specs.Repeats.{AreTimesOf, table_names};
 ghost use Rattle.qcow2_check.specs.Uses.{all_load};
 ghost use Rattle.qcow2_check.specs.Windows.{cell_bytes};
 ghost use Rattle.qcow2_layout.specs.Window.{PlacesAll};
@@ -16,14 +17,15 @@ use crate::parts::DATA_CODE;
 use crate::places::place_image;
 use crate::window::Window;
 use qcow2_base::{Fault, MAX_FILE_LENGTH, Storage};
-use qcow2_check::{ImageTables, counted_end};
+use qcow2_check::{ImageTables, Repeats, counted_end};
 use qcow2_metadata::Table;
 
 // The fewest dense cells of a window.
 const FEW_CELLS: u64 = 4096;
 
-// The most bytes that dense cells take, together with a decoded refcount block. If the cells are narrow and
-// blocks have 64 KiB, that suffices for 1 TiB in clusters of 64 KiB, and its tables.
+// The most bytes that dense cells take, together with a decoded refcount block and how often L2 tables count.
+// If the cells are narrow and blocks have 64 KiB, that suffices for 1 TiB in clusters of 64 KiB, and its
+// tables.
 const MOST_BYTES: u64 = 68 << 20;
 
 // The most cells in the map.
@@ -82,8 +84,8 @@ impl Windows {
         }
     }
 
-    // The size of the window that begins with a cluster.
-    fn size_at(&self, first: u64) -> Size
+    // The size of the window that begins with a cluster, given how many bytes more lie beside its cells.
+    fn size_at(&self, first: u64, more: usize) -> Size
         requires { first < max_file_length }
         ensures { IsSize first result }
     {
@@ -96,7 +98,8 @@ impl Windows {
             };
         }
         let counted = self.counted.saturating_sub(first);
-        let room = MOST_BYTES - self.block_bytes.min(MOST_BYTES / 2);
+        let beside = self.block_bytes.saturating_add(more as u64);
+        let room = MOST_BYTES - beside.min(MOST_BYTES / 2);
         let dense = dense_cells(counted, room, self.is_wide) as u64;
         Size {
             dense: left.min(dense) as usize,
@@ -106,16 +109,18 @@ impl Windows {
     }
 
     /// Places all references of an image to clusters from `first` on in a new window, for as many clusters as
-    /// fit. Their number decides the shape of later windows.
+    /// fit. Their number decides the shape of later windows. `repeats` must be those of the L1 table.
     ///
     /// Fails with the fault of an L2 table that doesn't load, or if memory runs out. Changes no byte.
     pub(crate) fn place<S: Storage>(
         &mut self,
         image: &mut S,
         tables: &ImageTables<'_>,
+        repeats: &Repeats,
         first: u64,
     ) -> Result<Window, Fault>
-        requires { first < max_file_length }
+        requires first { first < max_file_length }
+        requires repeats { AreTimesOf (table_names tables.now.l1) repeats.now }
         ensures reads { Reads (λ _. tt) result (all_load (geometry_of tables.now.header) tables.now.l1)
             IsEntryFault (S.state image.old) (S.state image.new) }
         ensures placed { IfOk result (λ window. OnImage (S.state image.old) (λ bytes.
@@ -128,10 +133,10 @@ impl Windows {
             dense,
             most,
             is_wide,
-        } = self.size_at(first);
+        } = self.size_at(first, repeats.bytes());
         let alloc = tables.l1_table.allocator();
         let unused = Window::new(alloc, first, dense, most, is_wide)?;
-        let window = place_image(unused, image, tables)?;
+        let window = place_image(unused, image, tables, repeats)?;
         prove!(first < window.end());
         // Counting the cells takes long, so do it only if there are later windows.
         self.is_sparse |= window.end() < MAX_FILE_LENGTH && window.used() < MOST_SPARSE;

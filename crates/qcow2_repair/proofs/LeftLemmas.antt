@@ -10,6 +10,7 @@ use Rattle.qcow2_base.specs.declared.types.HostCluster.{HostCluster}
 use Rattle.qcow2_metadata.specs.Entries.{is_copied}
 use Rattle.qcow2_metadata.specs.Header.{HeaderRecord, geometry_of}
 use Rattle.qcow2_summary.proofs.ApartLemmas.{named-below, named-used}
+use Rattle.qcow2_summary.proofs.ReportedLemmas.{unshared-reported}
 use Rattle.qcow2_check.proofs.FindingsLemmas.{uses_by_kind}
 use Rattle.qcow2_check.proofs.FindingsListLemmas.{no-more, none-just-where-right, pass-one, take-one}
 use Rattle.qcow2_summary.specs.Consistency.{IsConsistent}
@@ -65,18 +66,21 @@ finding-left tables image c right below = by_block (block_of_cluster tables.head
     finding : Finding
     finding = finding_at tables image c
 
+    reported : finding.counter ≡ counter_in tables image c
+    reported = unshared-reported tables image c right.apart
+
     by_block : (found : Option HostCluster) → block_of_cluster tables.header tables.reftable c ≡ found
         → (is_wrong (finding_at tables image c) ≡ false) ⊎ IsLeftFinding tables (finding_at tables image c)
     by_block None none = elim (cases_Bool (is_wrong finding)) [
       | inl wrong ↦ inr (record {
         uncounted = none;
-        counter = uncounted-none tables image c none;
-        used = some-used finding (uncounted-none tables image c none) (right.apart c below) wrong;
+        counter = reported ∙ uncounted-none tables image c none;
+        used = some-used finding (reported ∙ uncounted-none tables image c none) (right.apart c below) wrong;
         apart = right.apart c below;
       })
       | inr fine ↦ inl fine
     ]
-    by_block (Some block) there = inl (right-finding finding (right.counters c below (grind (arith, there))) (right.apart c below))
+    by_block (Some block) there = inl (right-finding finding (reported ∙ right.counters c below (grind (arith, there))) (right.apart c below))
 
 left-wrong : (P : Type 0) (test : Bool) → (test ≡ false) ⊎ P → test ≡ true → P
 left-wrong P test (inl right) wrong = absurd (grind (arith, right, wrong))

@@ -11,6 +11,7 @@ use Rattle.qcow2_metadata.specs.Header.{HeaderRecord, geometry_of, uncounted_par
 use Rattle.qcow2_metadata.specs.Refblock.{greatest_counter}
 use Rattle.qcow2_metadata.specs.Results.{Reads, unless_refused}
 use Rattle.qcow2_check.proofs.CountersLemmas.{counter-fits}
+use Rattle.qcow2_summary.proofs.ReportedLemmas.{reported-within}
 use Rattle.qcow2_check.proofs.FindingsListLemmas.{pass-one, take-one}
 use Rattle.qcow2_check.specs.Counters.{block_of_cluster, blocks_fault}
 use Rattle.qcow2_check.specs.Findings.{FindingsState, IsFindingsOf, checked_tables, finding_at, findings_from, findings_left, image_findings, is_shared, is_wrong, tables_of}
@@ -89,8 +90,8 @@ right-fits : (tables : ImageTables) (image : Image) (c : ℕ) → tables.header.
     → (is_wrong (finding_at tables image c) ≡ false) ⊎ (refusal_of tables.header tables.reftable (finding_at tables image c) ≡ None)
     → image_uses_of tables image c ≤ greatest_counter tables.header.base.refcount_order
 right-fits tables image c orders bytes some (inl right) =
-    subst (λ n. n ≤ greatest_counter tables.header.base.refcount_order) (wrong-parts (finding_at tables image c) right).0
-    (counter-fits tables.header tables.reftable image c orders bytes)
+    omega (arith, (wrong-parts (finding_at tables image c) right).0, reported-within tables image c,
+    counter-fits tables.header tables.reftable image c orders bytes)
 right-fits tables image c orders bytes some (inr fine) =
     fine-fits tables.header tables.reftable (finding_at tables image c) some fine
 

@@ -90,7 +90,7 @@ fn pass_window<S: Storage>(
         flag,
     };
     pass.pass_l1(l1_table);
-    let repeats = Repeats::new(l1_table)?;
+    let repeats = Repeats::new(l1_table.allocator(), l1_table)?;
     write_l1_table(image, header, l1_table)?;
     pass.pass_tables(image, l1_table, &repeats)?;
     Ok(tally.end())

@@ -11,8 +11,6 @@ use Rattle.std.specs.Str.{all_ascii_digits}
 use Rattle.std.specs.Char.{digit_value}
 use Rattle.std.specs.List.{list_all}
 use Rattle.std.specs.Str.Parse.{AllDigits, ParsesUnsigned, digits_value}
-use Rattle.qcow2_check.proofs.FlagsLemmas.{guest_offset_fits}
-use Rattle.qcow2_session.proofs.ListingLemmas.{table_lines-more}
 use Rattle.qcow2_session.specs.Commands.Apply.{hexadecimal}
 use Rattle.qcow2_session.specs.Commands.Words.{word_number}
 
@@ -36,9 +34,6 @@ IfSome-follows found follows holds = grind (arith, follows, holds)
 -- a fault of its own is what a run returns
 pub own-refused : {T : Type 0} (ran answer : Result T Fault) → IsErr ran → OnErr ran (answer ≡ ran) → IsErr answer
 own-refused ran answer refused own = grind (arith, refused, own)
-
--- a table's lines so far, and that of the next entry
-pub ruleset table_printed = (guest_offset_fits, table_lines-more)
 
 -- the bytes of hexadecimal digits, in the words of a test and of std
 all-digits : (word : List ℕ) → list_all (λ b. nat_lt (digit_value b) 16) word ≡ true → AllDigits 16 word

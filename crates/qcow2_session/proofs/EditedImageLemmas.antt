@@ -5,7 +5,8 @@ use Rattle.qcow2_metadata.specs.Header.Grammar.{header_of}
 use Rattle.qcow2_metadata.specs.Results.{and_then, result_map}
 use Rattle.qcow2_check.specs.NamedTables.{loaded_l1_table}
 use Rattle.qcow2_image.specs.Lookups.{guest_mapping, image_mapping, mapping_in}
-use Rattle.qcow2_apply.proofs.ApartLemmas.{AreUnshared, apart-unshared}
+use Rattle.qcow2_summary.proofs.ReportedLemmas.{AreUnshared}
+use Rattle.qcow2_apply.proofs.ApartLemmas.{apart-unshared}
 use Rattle.qcow2_apply.proofs.CheckedLemmas.{done-unshared, l1-stays}
 use Rattle.qcow2_apply.proofs.ApplyLemmas.{are-planned}
 use Rattle.qcow2_apply.proofs.HeaderLeftLemmas.{header-left}

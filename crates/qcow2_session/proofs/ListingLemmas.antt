@@ -1,5 +1,5 @@
 use Rattle.std.proofs.lemmas.Bool.Decides.{nat_tests}
-use Rattle.std.proofs.Common.{◌≡◌, ◌≢◌, ◌⊎◌, ℕ, zero, suc, add-zero, inr, ◌+◌, ◌-◌, ◌*◌, ◌%◌, ◌^◌, ◌<◌, List, [], ◌∷◌, ◌++◌, length, get_or, map, take, Option, Result, Ok, Err, IsTrue, ap, sym, refl, ◌∙◌, append_assoc, append-nil, arith}
+use Rattle.std.proofs.Common.{◌≡◌, ◌≢◌, ◌⊎◌, ℕ, zero, suc, add-zero, inr, ◌+◌, ◌-◌, ◌*◌, ◌%◌, ◌^◌, ◌<◌, ◌≤◌, List, [], ◌∷◌, ◌++◌, length, get_or, map, take, Option, Result, Ok, Err, IsOkAnd, IsTrue, ap, sym, refl, ◌∙◌, append_assoc, append-nil, arith}
 use Rattle.std.specs.List.{concat}
 use Rattle.std.specs.Io.KnownBytes.{Appends}
 use Rattle.std.proofs.KnownBytes.{Appends-nil, Appends-trans}
@@ -9,13 +9,16 @@ use Rattle.std.proofs.lemmas.Nat.{mod-mul-add}
 use Rattle.qcow2_base.specs.Storage.{Image, OnlyReads, StorageState}
 use Rattle.qcow2_base.specs.declared.fault.Fault.{Fault}
 use Rattle.qcow2_base.specs.declared.fault.Fault.TheVariants.{NoMemory, Storage}
+use Rattle.qcow2_base.specs.declared.types.HostCluster.{HostCluster}
 use Rattle.qcow2_metadata.specs.Header.{Geometry, geometry_of}
+use Rattle.qcow2_metadata.specs.Table.{TableState, loaded_l2_table, mapping_at}
 use Rattle.qcow2_metadata.specs.Entries.L2Mapping.{Mapping, mapping}
 use Rattle.qcow2_session.proofs.OutputLemmas.{part-after}
 use Rattle.qcow2_session.proofs.PrintingLemmas.{prints_no-more, read_fault-of, run_between, then_prints}
 use Rattle.qcow2_session.specs.Commands.Printing.{OutputBytes, OutputGets, PrintsText, Run}
-use Rattle.qcow2_session.specs.Commands.Entries.{entry_line, entry_lines, table_lines}
+use Rattle.qcow2_session.specs.Commands.Entries.{IsTold, entry_line, entry_lines, label_text, table_lines}
 use Rattle.qcow2_session.specs.Commands.List.{PrintsList, PrintsTables, PrintsTablesBefore, TableTexts, texts_left, texts_of}
+use Rattle.qcow2_image.specs.BlankTables.{IsBlank}
 use Rattle.qcow2_image.specs.L2Tables.{NamedTables, RefusesTable, WalkState, tables_left}
 use Rattle.qcow2_session.specs.declared.commands.entries.Label.TheVariants.{Offset}
 
@@ -42,7 +45,7 @@ entry_lines-begin label g from (x ∷ xs) (suc i) =
     (others.0, ap (λ t. here ++ t) others.1 ∙ sym (append_assoc here _ _))
 
 -- after the lines of the entries before i comes that of entry i of the table for an L1 index
-pub table_lines-more : (a b c : Option (List ℕ)) (label : ℕ → List ℕ) (g : Geometry) (index : ℕ) (xs : List ℕ) (i : ℕ) (found : Mapping) → i < length xs → length xs ≡ 2 ^ (g.cluster_bits - 3)
+table_lines-more : (a b c : Option (List ℕ)) (label : ℕ → List ℕ) (g : Geometry) (index : ℕ) (xs : List ℕ) (i : ℕ) (found : Mapping) → i < length xs → length xs ≡ 2 ^ (g.cluster_bits - 3)
     → found ≡ mapping g (index * 2 ^ (g.cluster_bits - 3) + i) (get_or xs ((index * 2 ^ (g.cluster_bits - 3) + i) % 2 ^ (g.cluster_bits - 3)) 0)
     → Appends a b (entry_lines label g (index * 2 ^ (g.cluster_bits - 3)) (take i xs))
     → Appends b c (entry_line g.cluster_bits (label (index * 2 ^ (g.cluster_bits - 3) + i)) found)
@@ -63,6 +66,50 @@ table_lines-failed fault a b c label g index xs i found below count is before fa
     let there : (first + i) % 2 ^ (g.cluster_bits - 3) ≡ i = grind (arith, mod-mul-add) in
     rw (begin.1, next) (prints_no-more fault a c _ begin.0 (then_prints (Err fault) a b c _ _ before (rw (is, there) at failed)))
 
+-- entries without a line after one, as many as that
+lines_of_run : (label : ℕ → List ℕ) (g : Geometry) (from : ℕ) (xs : List ℕ) (i n : ℕ) → i + n < length xs
+    → ((k : ℕ) → 1 ≤ k → k ≤ n → entry_line g.cluster_bits (label (from + (i + k))) (mapping g (from + (i + k)) (get_or xs (i + k) 0)) ≡ [])
+    → entry_lines label g from (take (suc (i + n)) xs) ≡ entry_lines label g from (take (suc i) xs)
+lines_of_run label g from xs i zero below none = rw (add-zero i) refl
+lines_of_run label g from xs i (suc n) below none =
+    let place : i + suc n ≡ suc (i + n) = omega arith in
+    let last = rw (none (suc n) (omega arith) (omega arith), append-nil) at (entry_lines-take-suc label g from xs (i + suc n) below) in
+    last ∙ rw place (lines_of_run label g from xs i n (omega (arith, below)) (λ k some few. none k some (omega (arith, few))))
+
+-- the lines of the entries before one of a table, that of its own, and none of those that are told with it
+pub table_lines-told : (a b c : Option (List ℕ)) (label : ℕ → List ℕ) (table : TableState) (index i count : ℕ) (found : Mapping) → i < length table.numbers
+    → length table.numbers ≡ 2 ^ (table.geometry.cluster_bits - 3) → found ≡ mapping_at table (index * 2 ^ (table.geometry.cluster_bits - 3) + i)
+    → IsTold table (index * 2 ^ (table.geometry.cluster_bits - 3) + i) count
+    → Appends a b (entry_lines label table.geometry (index * 2 ^ (table.geometry.cluster_bits - 3)) (take i table.numbers))
+    → Appends b c (entry_line table.geometry.cluster_bits (label (index * 2 ^ (table.geometry.cluster_bits - 3) + i)) found)
+    → (i + count ≤ length table.numbers) × Appends a c (entry_lines label table.geometry (index * 2 ^ (table.geometry.cluster_bits - 3)) (take (i + count) table.numbers))
+table_lines-told a b c label table index i count found below full is told before here =
+    let size = 2 ^ (table.geometry.cluster_bits - 3) in
+    let first = index * size in
+    let at : (k : ℕ) → i + k < size → (first + i + k) % size ≡ i + k = λ k inside.
+    let moved : first + i + k ≡ first + (i + k) = omega arith in
+    rw moved (mod-mul-add index size (i + k) inside) in
+    let own : (first + i) % size ≡ i = mod-mul-add index size i (rw full at below) in
+    let fits : i + count ≤ size = rw own at told.within in
+    let last : i + (count - 1) < length table.numbers = rw full (omega (arith, fits, told.some)) in
+    let end : i + count ≡ suc (i + (count - 1)) = omega (arith, told.some) in
+    let none : (k : ℕ) → 1 ≤ k → k ≤ count - 1 → entry_line table.geometry.cluster_bits (label (first + (i + k))) (mapping table.geometry (first + (i + k)) (get_or table.numbers (i + k) 0)) ≡ [] = λ k some few.
+    let moved : first + i + k ≡ first + (i + k) = omega arith in
+    let left = rw (at k (omega (arith, few, told.some, fits)), moved) at (told.left k some (omega (arith, few, told.some))) in
+    rw left refl in
+    let one : suc i ≡ i + 1 = omega arith in (
+      rw full fits,
+      rw (end, lines_of_run label table.geometry first table.numbers i (count - 1) last none, one)
+          (table_lines-more a b c label table.geometry index table.numbers i found below full is before here),
+    )
+
+-- a table that leaves all guest clusters to the backing file has no line
+pub blank_lines : (label : ℕ → List ℕ) (g : Geometry) (from : ℕ) (xs : List ℕ) → IsBlank g xs → entry_lines label g from xs ≡ []
+blank_lines label g from [] blank = refl
+blank_lines label g from (x ∷ xs) blank =
+    let rest = blank_lines label g (from + 1) xs (λ guest_cluster i below. blank guest_cluster (suc i) (omega (arith, below))) in
+    rw (blank from 0 (omega arith), rest) refl
+
 -- the lines of tables after those of others
 pub tables-printed : (some more : List (List ℕ)) (a b c : Option (List ℕ)) → Appends a b (concat some) → Appends b c (concat more) → Appends a c (concat (some ++ more))
 tables-printed some more a b c before here = rw (concat-append some more) (Appends-trans a b c _ _ before here)
@@ -76,6 +123,36 @@ pub texts-more : (left next : WalkState) (index : ℕ) (numbers : List ℕ) (ima
     → tables_left left image ≡ (index, Ok numbers) ∷ tables_left next image
     → texts_left left image ≡ Ok (table_lines Offset (geometry_of left.header) index numbers) ∷ texts_left next image
 texts-more left next index numbers image header first = grind (arith, nat_tests)
+
+-- one more table of a walk is printed
+pub one-printed : (left next : WalkState) (index : ℕ) (cluster : HostCluster) (numbers : List ℕ) (image : Image) (all : TableTexts) (a b c : OutputBytes) → next.header ≡ left.header
+    → tables_left left image ≡ (index, loaded_l2_table (geometry_of left.header) cluster image) ∷ tables_left next image
+    → loaded_l2_table (geometry_of left.header) cluster image ≡ Ok numbers
+    → (printed : List (List ℕ)) × (all ≡ map Ok printed ++ texts_left left image) × Appends a b (concat printed)
+    → Appends b c (table_lines Offset (geometry_of left.header) index numbers)
+    → (printed : List (List ℕ)) × (all ≡ map Ok printed ++ texts_left next image) × Appends a c (concat printed)
+one-printed left next index cluster numbers image all a b c header passed loaded before here =
+    let lines = table_lines Offset (geometry_of left.header) index numbers in
+    let texts = texts-more left next index numbers image header (rw loaded at passed) in (
+      before.0 ++ (lines ∷ []),
+      tables-known before.0 (lines ∷ []) (texts_left next image) all (rw texts at before.1),
+      tables-printed before.0 (lines ∷ []) a b c before.2 (rw (append-nil lines) here),
+    )
+
+-- and one that is blank, which has no line
+pub blank-printed : (left next : WalkState) (index : ℕ) (cluster : HostCluster) (image : Image) (all : TableTexts) (a b : OutputBytes) → next.header ≡ left.header
+    → tables_left left image ≡ (index, loaded_l2_table (geometry_of left.header) cluster image) ∷ tables_left next image
+    → IsOkAnd (loaded_l2_table (geometry_of left.header) cluster image) (IsBlank (geometry_of left.header))
+    → (printed : List (List ℕ)) × (all ≡ map Ok printed ++ texts_left left image) × Appends a b (concat printed)
+    → (printed : List (List ℕ)) × (all ≡ map Ok printed ++ texts_left next image) × Appends a b (concat printed)
+blank-printed left next index cluster image all a b header passed known before = by_load (loaded_l2_table (geometry_of left.header) cluster image) refl known
+  where
+    by_load : (load : Result (List ℕ) Fault) → loaded_l2_table (geometry_of left.header) cluster image ≡ load → IsOkAnd load (IsBlank (geometry_of left.header))
+        → (printed : List (List ℕ)) × (all ≡ map Ok printed ++ texts_left next image) × Appends a b (concat printed)
+    by_load (Ok numbers) loaded blank =
+        let none = blank_lines (label_text Offset (left.header.v2.cluster_bits)) (geometry_of left.header) (index * 2 ^ (left.header.v2.cluster_bits - 3)) numbers blank in
+        one-printed left next index cluster numbers image all a b b header passed loaded before (rw none (Appends-nil b))
+    by_load (Err fault) loaded known = absurd known
 
 -- the output failed in the lines of a table, after those of others were printed
 pub ended-printing : {A O T : Type 0} (fault : Fault) (known : List (List ℕ)) (lines : List ℕ) (rest all : TableTexts) (run : Run A O) (b : OutputBytes)

@@ -17,6 +17,6 @@ pub use qcow2_edits::{
     Change, Edit, Outcome, Step, StepReply, edit_settled, edit_table, edits_fit, settle, step_block,
 };
 pub use qcow2_image::{Content, Extent, Extents, edit_image, lookup, lookup_image, step_image};
-use qcow2_image::{L2Tables, lookup_with_header};
+use qcow2_image::{BlankTables, L2Tables, lookup_with_header};
 pub use qcow2_repair::{refuse_tables_past_end, refuse_unrepairable, repair_image};
 pub use qcow2_summary::is_consistent;

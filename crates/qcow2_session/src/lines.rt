@@ -17,20 +17,22 @@ use std::io::Write;
 /// A value that prints as one or more lines.
 pub(crate) trait ToLine {
     /// The text, as bytes.
-    ghost line: { Self → List ℕ };
+    ghost text: { Self → List ℕ };
 
-    /// Returns the text.
-    fn to_line(&self) -> LineBuffer
-        ensures { result ≡ line self.now };
+    /// Puts the text in a line, in place of what the line has.
+    fn put_in(&self, line: &mut LineBuffer)
+        ensures { line.new ≡ text self.now };
 }
 
 /// Prints the lines of each item.
 #[tactic(auto, using(crate::proofs::PrintingLemmas::lines_printed))]
 pub(crate) fn print_lines<T: ToLine, O: Write>(items: &[T], out: &mut O) -> Result<(), Fault>
-    ensures { PrintsText result (O.contents out.old) (O.contents out.new) (flat_map T.line items.now) }
+    ensures { PrintsText result (O.contents out.old) (O.contents out.new) (flat_map T.text items.now) }
 {
+    let mut line = LineBuffer::new();
     for item in items {
-        print(item.to_line().as_bytes(), out)?;
+        item.put_in(&mut line);
+        print(line.as_bytes(), out)?;
     }
     Ok(())
 }

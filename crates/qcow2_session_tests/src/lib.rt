@@ -27,6 +27,8 @@ mod plain_storage;
 #[cfg(test)]
 mod refused_calls;
 #[cfg(test)]
+mod repeated_tables;
+#[cfg(test)]
 mod settled;
 #[cfg(test)]
 mod steps;

@@ -7,12 +7,13 @@ use Rattle.std.proofs.lemmas.List.Sums.{sum_by-cons}
 use Rattle.qcow2_base.specs.Format.{max_file_length}
 use Rattle.qcow2_base.specs.Storage.{Image, OnImage, OnlyReads, StorageState}
 use Rattle.qcow2_base.specs.declared.fault.Fault.{Fault}
+use Rattle.qcow2_check.proofs.FindingsLemmas.{reported_right}
 use Rattle.qcow2_check.proofs.FindingsListLemmas.{no-more, pass-one, take-one}
 use Rattle.qcow2_metadata.specs.Entries.{is_among}
 use Rattle.qcow2_metadata.specs.Header.{HeaderRecord}
 use Rattle.qcow2_metadata.specs.Table.L2Guards.{one_if}
 use Rattle.qcow2_check.specs.Counters.{CountersState, IsSameButBlock, block_of_cluster, counter_of}
-use Rattle.qcow2_check.specs.Findings.{finding_at, findings_from, image_findings, is_wrong, uses_of_kind}
+use Rattle.qcow2_check.specs.Findings.{finding_at, findings_from, image_findings, is_wrong, reported_counter, uses_of_kind}
 use Rattle.qcow2_summary.specs.ImageEnd.{end_of, findings_end, image_end, is_counted, is_in_use, most_clusters}
 use Rattle.qcow2_check.specs.Tally.{ClusterUse, mark_of}
 use Rattle.qcow2_check.specs.Uses.{ImageTables, image_uses, uses_of}
@@ -94,7 +95,10 @@ unused-right tables image c free =
     let uses = image_uses tables image in
     let fixed = kind-within Fixed uses c in
     let l2 = kind-within L2Table uses c in
-    grind (arith, nat_tests, free, fixed, l2)
+    let none : uses_of uses c ≡ 0 = grind (arith, nat_tests, free) in
+    let counter : counter_of tables.header tables.reftable image c ≡ 0 = grind (arith, nat_tests, free) in
+    let reported : reported_counter tables image c ≡ uses_of uses c = reported_right tables image c (counter ∙ sym none) in
+    grind (arith, nat_tests, reported, none, fixed, l2)
 
 -- and one that is right has uses only where it has a counter
 right-free : (tables : ImageTables) (image : Image) (c : ℕ) → is_counted tables.header tables.reftable image c ≡ false → is_wrong (finding_at tables image c) ≡ false

@@ -181,6 +181,6 @@ pub fn count_entries<S: Storage>(
         (S.state image.old) (S.state image.new) }
 {
     let l1_table = load_l1_table(alloc, image, header)?;
-    let repeats = Repeats::new(&l1_table)?;
+    let repeats = Repeats::new(alloc, &l1_table)?;
     count_tables(image, header, &l1_table, &repeats)
 }

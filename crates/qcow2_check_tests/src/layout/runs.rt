@@ -84,6 +84,13 @@ const UNUSED: &[Laid<'static>] = rows! { Laid:
         changes: &[(REFTABLE + 8, 3072), (3072 + 504, 1), (NEXT_ENTRY, 1000 << 9)],
         runs: runs! { 5 + 1 FIRST, 6 + 1 Part::RefcountBlock, 7 + 504 Part::Free, 511 + 1 Part::Leaked,
             512 + 488 Part::Free, 1000 + 1 NEXT } },
+    // the same block is for clusters 512 to 767 too, whose refcounts are reported for clusters 0 to 255
+    { name: "a leaked cluster of a block that is named again",
+        changes: &[(REFTABLE + 16, BLOCK), (BLOCK + 12, 7 << 48)],
+        runs: runs! { 5 + 1 FIRST, 6 + 1 Part::Leaked } },
+    { name: "data in the later range of such a block",
+        changes: &[(REFTABLE + 16, BLOCK), (NEXT_ENTRY, 518 << 9)],
+        runs: runs! { 5 + 1 FIRST, 6 + 512 Part::Free, 518 + 1 NEXT } },
 };
 
 const FAR: &[Laid<'static>] = rows! { Laid:

@@ -1,9 +1,9 @@
 -- What are the lines of an L2 table's entries?
-use Rattle.std.specs.Prelude.{ℕ, ◌+◌, ◌*◌, ◌^◌, List, [], ◌∷◌, ◌++◌, codes}
+use Rattle.std.specs.Prelude.{◌≡◌, ℕ, ◌+◌, ◌*◌, ◌^◌, ◌<◌, ◌≤◌, List, [], ◌∷◌, ◌++◌, codes}
 use Rattle.std.specs.Fmt.{decimal}
 use Rattle.qcow2_metadata.specs.Header.{Geometry}
 use Rattle.qcow2_metadata.specs.Entries.L2Mapping.{Mapping, backing, mapping}
-use Rattle.qcow2_metadata.specs.Table.{l2_entries}
+use Rattle.qcow2_metadata.specs.Table.{TableState, l2_entries, mapping_at, place_in_table}
 use Rattle.qcow2_session.specs.Lines.{mapping_text, offset_text}
 use Rattle.qcow2_session.specs.declared.commands.entries.Label.{Label}
 use Rattle.qcow2_session.specs.declared.commands.entries.Label.TheVariants.{Index, Offset}
@@ -28,3 +28,10 @@ entry_lines label g cluster (v ∷ vs) =
 abbrev pub table_lines : Label → Geometry → ℕ → List ℕ → List ℕ
 table_lines label g l1_index numbers =
     entry_lines (label_text label g.cluster_bits) g (l1_index * l2_entries g.cluster_bits) numbers
+
+-- that many entries of a table from a guest cluster's on, one at least, have no line but that of the first
+pub record IsTold (table : TableState) (first count : ℕ) : Type 0 where
+  pub some : 1 ≤ count
+  pub within : place_in_table table first + count ≤ l2_entries table.geometry.cluster_bits
+  pub left : (k : ℕ) → 1 ≤ k → k < count →
+      mapping_at table (first + k) ≡ backing ((first + k) * 2 ^ table.geometry.cluster_bits)

@@ -229,16 +229,15 @@ fn print_clusters<O: Write>(clusters: &ChangedClusters, out: &mut O) -> Result<(
 
 /// A cluster that lost a reference and has others.
 impl ToLine for KeptCluster {
-    ghost line = { spec.kept_line };
+    ghost text = { spec.kept_line };
 
-    fn to_line(&self) -> LineBuffer {
-        let mut line = LineBuffer::new();
+    fn put_in(&self, line: &mut LineBuffer) {
+        line.clear();
         line.prepend("\n");
         line.prepend_decimal(self.counter);
         line.prepend(" ");
         line.prepend_decimal(self.cluster.0);
         line.prepend("kept ");
-        line
     }
 }
 

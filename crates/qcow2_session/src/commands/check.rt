@@ -16,7 +16,7 @@ ghost use Rattle.qcow2_session.specs.Commands.Words.{Parses};
 use super::Command;
 use super::words::FileName;
 use crate::Verdict;
-use crate::lines::{Output, ToLine, print};
+use crate::lines::{LineBuffer, Output, ToLine, print};
 use account::take_account;
 use json::print_object;
 use lines::end_lines;
@@ -210,9 +210,11 @@ fn print_runs<S: Storage, O: Write>(
     ensures storage { ReadsFor (IsErrOf result StorageFailed) (S.state image.old) (S.state image.new) }
 {
     let mut totals = Totals::new();
+    let mut line = LineBuffer::new();
     while let Some(run) = runs.next(image)? {
         totals = totals.with_clusters(&run.first, run.count)?;
-        print(run.to_line().as_bytes(), out)?;
+        run.put_in(&mut line);
+        print(line.as_bytes(), out)?;
     }
     Ok(totals)
 }
@@ -232,9 +234,11 @@ fn print_flags<S: Storage, O: Write>(
     ensures storage { ReadsFor (IsErrOf result StorageFailed) (S.state image.old) (S.state image.new) }
 {
     let mut totals = totals;
+    let mut line = LineBuffer::new();
     while let Some(flag) = flags.next(image)? {
         totals = totals.with_flag(&flag)?;
-        print(flag.to_line().as_bytes(), out)?;
+        flag.put_in(&mut line);
+        print(line.as_bytes(), out)?;
     }
     Ok(totals)
 }

@@ -63,10 +63,10 @@ pub(super) fn count_and_wait<S: Device, O: Write>(
 
 /// The result of a step.
 impl ToLine for StepReply {
-    ghost line = { reply_line };
+    ghost text = { reply_line };
 
-    fn to_line(&self) -> LineBuffer {
-        let mut line = LineBuffer::new();
+    fn put_in(&self, line: &mut LineBuffer) {
+        line.clear();
         match *self {
             StepReply::Done(before) => {
                 line.prepend("\n");
@@ -75,7 +75,6 @@ impl ToLine for StepReply {
             }
             StepReply::Refused => line.prepend("refused\n"),
         }
-        line
     }
 }
 

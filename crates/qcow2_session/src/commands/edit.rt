@@ -90,29 +90,27 @@ fn print_outcome<O: Write>(outcome: &Outcome, out: &mut O) -> Result<(), Fault>
 
 /// Clusters that lost a reference.
 impl ToLine for ClustersToFreeEntry {
-    ghost line = { freed_line };
+    ghost text = { freed_line };
 
-    fn to_line(&self) -> LineBuffer {
-        let mut line = LineBuffer::new();
+    fn put_in(&self, line: &mut LineBuffer) {
+        line.clear();
         line.prepend("\n");
         line.prepend_decimal(self.count.0);
         line.prepend(" ");
         line.prepend_decimal(self.first.0);
         line.prepend("freed ");
-        line
     }
 }
 
 /// A cluster that gained a reference.
 impl ToLine for HostCluster {
-    ghost line = { λ cluster. gained_line cluster.0 };
+    ghost text = { λ cluster. gained_line cluster.0 };
 
-    fn to_line(&self) -> LineBuffer {
-        let mut line = LineBuffer::new();
+    fn put_in(&self, line: &mut LineBuffer) {
+        line.clear();
         line.prepend("\n");
         line.prepend_decimal(self.0);
         line.prepend("gained ");
-        line
     }
 }
 

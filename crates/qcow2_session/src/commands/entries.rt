@@ -4,8 +4,8 @@ ghost use Rattle.std.specs.Prelude.{◌≡◌, ◌-◌, ◌*◌, ◌^◌, ◌<�
 ghost use Rattle.qcow2_base.specs.Format.{most_l1_entries};
 ghost use Rattle.qcow2_base.specs.Types.{IsClusterBits};
 ghost use Rattle.qcow2_metadata.specs.Entries.L2Mapping.{IsPlaced, meaning};
-ghost use Rattle.qcow2_metadata.specs.Table.{l2_entries};
-ghost use Rattle.qcow2_session.specs.Commands.Entries.{entry_line, label_text, table_lines};
+ghost use Rattle.qcow2_metadata.specs.Table.{l2_entries, mapping_at};
+ghost use Rattle.qcow2_session.specs.Commands.Entries.{IsTold, entry_line, label_text, table_lines};
 ghost use Rattle.qcow2_session.specs.Commands.Printing.{PrintsText};
 
 use crate::lines::{LineBuffer, prepend_mapping, print};
@@ -22,7 +22,7 @@ pub(super) enum Label {
 }
 
 /// Prints a line for each entry of the L2 table of an L1 index, except those left to the backing file.
-#[tactic(auto, using(crate::proofs::CommandsLemmas::table_printed))]
+#[tactic(auto, using(crate::proofs::TablesLemmas::table_starts))]
 pub(super) fn print_entries<O: Write>(
     table: &L2Table,
     l1_index: usize,
@@ -36,12 +36,27 @@ pub(super) fn print_entries<O: Write>(
 {
     let cluster_bits = table.cluster_bits();
     let mut line = LineBuffer::new();
-    for l2_index in 0..table.entries() {
+    let mut l2_index = 0;
+    while l2_index < table.entries() {
         let guest_cluster = GuestCluster::from_l1_l2_indices(l1_index, l2_index, cluster_bits);
         let mapping = table.get_mapping(guest_cluster)?;
         print_entry(&mut line, guest_cluster, label, &mapping, cluster_bits, out)?;
+        l2_index += entries_told(table, guest_cluster, &mapping);
     }
     Ok(())
+}
+
+// Returns the number of entries, from a guest cluster's on, of which at most the first has a line: the whole
+// run of those left to the backing file, or 1.
+#[inline]
+fn entries_told(table: &L2Table, guest_cluster: GuestCluster, mapping: &L2Mapping) -> usize
+    requires { meaning mapping.now ≡ mapping_at table.now guest_cluster.0 }
+    ensures { IsTold table.now guest_cluster.0 result }
+{
+    match mapping {
+        L2Mapping::Backing { .. } => table.run_length(guest_cluster).0 as usize,
+        _ => 1,
+    }
 }
 
 // Prints the line of a guest cluster's entry: its label, a space, and its mapping. An entry left to the

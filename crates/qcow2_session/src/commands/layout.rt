@@ -87,22 +87,23 @@ fn print_runs<S: Storage, O: Write>(
         layout.old }
     ensures storage { ReadsFor (IsErrOf result StorageFailed) (S.state image.old) (S.state image.new) }
 {
+    let mut line = LineBuffer::new();
     while let Some(run) = layout.next(image)? {
-        print(run.to_line().as_bytes(), out)?;
+        run.put_in(&mut line);
+        print(line.as_bytes(), out)?;
     }
     Ok(())
 }
 
 impl ToLine for Run {
-    ghost line = { run_line };
+    ghost text = { run_line };
 
-    fn to_line(&self) -> LineBuffer {
-        let mut line = LineBuffer::new();
+    fn put_in(&self, line: &mut LineBuffer) {
+        line.clear();
         line.prepend("\n");
-        prepend_part(&mut line, self.part);
+        prepend_part(line, self.part);
         line.prepend(" ");
-        prepend_pair(&mut line, self.first.0, self.count);
-        line
+        prepend_pair(line, self.first.0, self.count);
     }
 }
 

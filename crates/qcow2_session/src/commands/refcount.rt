@@ -67,15 +67,14 @@ fn counted_clusters<S: Storage>(
 }
 
 impl ToLine for CountedCluster {
-    ghost line = { counted_cluster_line };
+    ghost text = { counted_cluster_line };
 
-    fn to_line(&self) -> LineBuffer {
-        let mut line = LineBuffer::new();
+    fn put_in(&self, line: &mut LineBuffer) {
+        line.clear();
         line.prepend("\n");
         line.prepend_decimal(self.counter);
         line.prepend(" ");
         line.prepend_decimal(self.cluster.0);
-        line
     }
 }
 

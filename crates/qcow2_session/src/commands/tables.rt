@@ -236,15 +236,15 @@ fn print_rows<O: Write>(rows: &Rows<'_>, out: &mut O) -> Result<(), Fault>
 }
 
 impl ToLine for TableLine {
-    ghost line = { table_line };
+    ghost text = { table_line };
 
-    fn to_line(&self) -> LineBuffer {
-        let mut line = LineBuffer::new();
+    fn put_in(&self, line: &mut LineBuffer) {
+        line.clear();
         line.prepend("\n");
         match self {
             TableLine::Header => line.prepend("header 0 1"),
             TableLine::L1Table { first, count } => {
-                prepend_pair(&mut line, first.0, *count);
+                prepend_pair(line, first.0, *count);
                 line.prepend("l1 ");
             }
             TableLine::L2Table {
@@ -256,13 +256,13 @@ impl ToLine for TableLine {
             } => {
                 line.prepend_decimal(*counter);
                 line.prepend(" ");
-                prepend_range(&mut line, *start, *mapped);
+                prepend_range(line, *start, *mapped);
                 line.prepend(" ");
-                prepend_pair(&mut line, *l1_index, cluster.0);
+                prepend_pair(line, *l1_index, cluster.0);
                 line.prepend("l2 ");
             }
             TableLine::RefcountTable { first, count } => {
-                prepend_pair(&mut line, first.0, *count);
+                prepend_pair(line, first.0, *count);
                 line.prepend("refcount-table ");
             }
             TableLine::RefcountBlock {
@@ -272,11 +272,10 @@ impl ToLine for TableLine {
             } => {
                 line.prepend_decimal(counted.0);
                 line.prepend(" ");
-                prepend_pair(&mut line, *index, cluster.0);
+                prepend_pair(line, *index, cluster.0);
                 line.prepend("refcount-block ");
             }
         }
-        line
     }
 }
 

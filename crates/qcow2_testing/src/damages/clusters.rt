@@ -228,14 +228,8 @@ const SHARED: &[Damage] = rows! {
             leaked 0 missing 2 shared 2 false 0 late 2\n",
         sizes: Sizes { clusters: 128, allocated: 2, ..SIZES }, ..DAMAGE },
     Damage { name: "a block that two entries name", changes: counted! { (REFTABLE + 8, BLOCK) },
-        clusters: found! {
-            4 counter 1 uses 2 shared true, 256 counter 1 uses 0 shared false,
-            257 counter 1 uses 0 shared false, 258 counter 1 uses 0 shared false,
-            259 counter 1 uses 0 shared false, 260 counter 1 uses 0 shared false,
-            261 counter 1 uses 0 shared false
-        },
-        lines: "missing 4 1 1 2\nshared 4 1 1 2\nleaked 256 6 1 0\n\
-            leaked 6 missing 1 shared 1 false 0 late 0\n",
+        clusters: found! { 4 counter 1 uses 2 shared true },
+        lines: "missing 4 1 1 2\nshared 4 1 1 2\nleaked 0 missing 1 shared 1 false 0 late 0\n",
         sizes: Sizes { end: 134144, ..SIZES }, ..DAMAGE },
     Damage { name: "the only data in the L1 table", changes: counted! { (DATA_ENTRY, COPIED + L1_TABLE) },
         clusters: found! { 1 counter 1 uses 2 shared true, 5 counter 1 uses 0 shared false },

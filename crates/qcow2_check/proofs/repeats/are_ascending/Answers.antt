@@ -1,17 +1,14 @@
-use Rattle.std.proofs.Common.{◌≡◌, ◌<◌, ◌∙◌, false, length, slice_index, inl, inr, arith, subst, sym}
-use Rattle.std.proofs.lemmas.List.{length-map}
-use Rattle.qcow2_metadata.specs.Entries.{offset_field}
+use Rattle.std.proofs.Common.{◌≡◌, ◌<◌, false, length, slice_index, inl, inr, arith, subst}
 use Rattle.std.proofs.lemmas.Bool.{cases_lt}
-use Rattle.qcow2_check.proofs.RepeatsLemmas.{name_at, not_again}
-use Rattle.qcow2_check.specs.Repeats.{is_again, table_names}
+use Rattle.qcow2_check.proofs.RepeatsLemmas.{not_again}
+use Rattle.qcow2_check.specs.Repeats.{is_again}
 use Rattle.qcow2_check.proofs.repeats.are_ascending.Goals as goal
 
 pub loop-index-preserved : goal.loop-index-preserved
-loop-index-preserved c =
-    let offsets = table_names c.args.l1_table.now.numbers in
-    let numbers = c.args.l1_table.now.numbers in
-    let inside : c.loop-index.index < length numbers = omega (arith, c.loop-index-test.true, c.entries-index-end.ensures.count) in
-    let here = c.offset_at-offset.ensures ∙ sym (name_at numbers c.loop-index.index inside) in
+loop-index-preserved g c =
+    let offsets = g.T.NamesOffsets.names c.args.table.now in
+    let inside : c.loop-index.index < length offsets = omega (arith, c.loop-index-test.true, c.count-index-end.ensures) in
+    let here = c.offset_at-offset.ensures in
     let so_far = c.loop-index.invariant in
     let index = c.loop-index.index in
     let last = c.loop-index.last in
@@ -28,7 +25,7 @@ loop-index-preserved c =
         | inr later ↦
             let same : index ≡ i = omega (arith, before, later) in
             let here : 0 < slice_index offsets index → is_again offsets index ≡ false = λ more.
-            not_again offsets index last (omega (arith, inside, length-map numbers offset_field)) so_far.last (grind (arith, c.else-offset-ne0.either, here, more)) in
+            not_again offsets index last inside so_far.last (grind (arith, c.else-offset-ne0.either, here, more)) in
             subst (λ k. 0 < slice_index offsets k → is_again offsets k ≡ false) same here some
       ];
     }

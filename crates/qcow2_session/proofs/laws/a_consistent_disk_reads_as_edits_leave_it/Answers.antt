@@ -1,5 +1,5 @@
 use Rattle.qcow2_apply.specs.Apply.{tables_by}
-use Rattle.qcow2_apply.proofs.ApartLemmas.{right-unshared}
+use Rattle.qcow2_summary.proofs.ReportedLemmas.{right-unshared}
 use Rattle.qcow2_session.proofs.EditedImageLemmas.{image-reads-as-left}
 use Rattle.qcow2_session.proofs.laws.a_consistent_disk_reads_as_edits_leave_it.Goals as goal
 

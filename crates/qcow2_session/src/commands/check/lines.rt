@@ -10,23 +10,22 @@ use qcow2_metadata::Header;
 
 /// Clusters with the same finding: a line for each kind that it is.
 impl ToLine for FindingRun {
-    ghost line = { run_lines };
+    ghost text = { run_lines };
 
-    fn to_line(&self) -> LineBuffer {
-        let mut line = LineBuffer::new();
+    fn put_in(&self, line: &mut LineBuffer) {
+        line.clear();
         if self.first.shared {
-            prepend_numbers(&mut line, self);
+            prepend_numbers(line, self);
             line.prepend("shared ");
         }
         if self.first.is_missing() {
-            prepend_numbers(&mut line, self);
+            prepend_numbers(line, self);
             line.prepend("missing ");
         }
         if self.first.is_leaked() {
-            prepend_numbers(&mut line, self);
+            prepend_numbers(line, self);
             line.prepend("leaked ");
         }
-        line
     }
 }
 
@@ -48,18 +47,17 @@ fn prepend_numbers(line: &mut LineBuffer, run: &FindingRun)
 
 /// A wrong copied flag.
 impl ToLine for WrongFlag {
-    ghost line = { flag_line };
+    ghost text = { flag_line };
 
-    fn to_line(&self) -> LineBuffer {
-        let mut line = LineBuffer::new();
+    fn put_in(&self, line: &mut LineBuffer) {
+        line.clear();
         line.prepend("\n");
-        prepend_counter(&mut line, self.counter);
+        prepend_counter(line, self.counter);
         line.prepend(" ");
         line.prepend_decimal(self.cluster.0);
         line.prepend(" ");
-        prepend_place(&mut line, self.place);
+        prepend_place(line, self.place);
         line.prepend(if self.is_set { "false " } else { "late " });
-        line
     }
 }
 

@@ -106,10 +106,10 @@ fn legend_end(scale: u64, cluster_size: u64) -> LineBuffer
 }
 
 impl ToLine for Shape {
-    ghost line = { shape_line };
+    ghost text = { shape_line };
 
-    fn to_line(&self) -> LineBuffer {
-        let mut line = LineBuffer::new();
+    fn put_in(&self, line: &mut LineBuffer) {
+        line.clear();
         line.prepend("z'/>\n");
         line.prepend_decimal(self.count as u64);
         line.prepend("v1h-");
@@ -121,6 +121,5 @@ impl ToLine for Shape {
         line.prepend("' d='M");
         line.prepend_decimal(u64::from(self.shade));
         line.prepend("<path class='s");
-        line
     }
 }

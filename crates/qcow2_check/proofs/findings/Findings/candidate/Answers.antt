@@ -14,8 +14,8 @@ returns-then-not-is_dense-clause-right c = λ image reads.
     right_before c.args.self.now c.unwrap-tally.result.now image c.args.self.now.position c.free_end.result (search rules) reads (search rules) (search rules)
     (λ k after before. none k after (omega (arith, before, c.free_end.ensures.within))) (free image (search rules))
 
-pub returns-clause-right : goal.returns-clause-right
-returns-clause-right c = λ image reads.
+pub returns-in_default-clause-right : goal.returns-in_default-clause-right
+returns-in_default-clause-right c = λ image reads.
     let position : c.self.inside.position ≡ c.args.self.now.position = ap (λ (reader : FindingsState). reader.position) c.self.view_is in
     let header : c.self.inside.counters.header ≡ c.args.self.now.header = search rules in
     let reftable : c.self.inside.counters.reftable ≡ c.args.self.now.counters.reftable = search rules in

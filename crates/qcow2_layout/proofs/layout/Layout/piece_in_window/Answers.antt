@@ -25,7 +25,7 @@ returns-then-counter-ne0-clause-piece g c = λ told.
 pub returns-clause-piece : goal.returns-clause-piece
 returns-clause-piece g c = λ told.
     let reader = c.args.self.now in
-    let counters = c.get_in_order.new.self in
+    let counters = c.get_unused.new.self in
     let image = (g.S.Storage.state c.args.image.now).byte_at in
     let header : counters.header ≡ reader.header = search rules in
     let reftable : counters.reftable ≡ reader.counters.reftable = search rules in

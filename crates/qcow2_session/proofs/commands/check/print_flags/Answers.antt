@@ -50,7 +50,7 @@ returns-in_err-print-clause-prints g c =
           known-before (λ bytes. TakesFlag (flags_left left bytes) (flags_left later bytes) (Ok c.in_ok-flag.field-0)) state now kept.storage.device.tells kept.storage.bytes c.in_ok-flag.ensures.flag told in (
             inr c.in_err-print.ensures.fault,
             lines-failed flag_line (flags_left c.args.flags.now state.byte_at) printed.0 (flags_left left state.byte_at) (flags_left later state.byte_at) c.in-Some.flag _ _ _ printed.1
-                (rw c.in-Some.is at taken) printed.2 (rw c.to_line.ensures at (rw c.as_bytes.ensures at c.in_err-print.ensures.part)),
+                (rw c.in-Some.is at taken) printed.2 (rw c.put_in.ensures at (rw c.as_bytes.ensures at c.in_err-print.ensures.part)),
           );
     })
 
@@ -69,7 +69,7 @@ loop-flag-preserved g c =
           let is = rw c.in-Some.is at taken in (
             printed.0 ++ (c.in-Some.flag ∷ []),
             items-more (flags_left c.args.flags.now state.byte_at) printed.0 (flags_left left state.byte_at) (flags_left later state.byte_at) c.in-Some.flag printed.1 is,
-            lines-more flag_line printed.0 c.in-Some.flag _ _ _ printed.2 (rw c.to_line.ensures at (rw c.as_bytes.ensures at c.in_ok-print.ensures.text)),
+            lines-more flag_line printed.0 c.in-Some.flag _ _ _ printed.2 (rw c.put_in.ensures at (rw c.as_bytes.ensures at c.in_ok-print.ensures.text)),
             c.in_ok-totals.ensures.totals ∙ ap (λ totals. with_flag totals c.in-Some.flag) printed.3 ∙ totals-flag c.args.totals printed.0 c.in-Some.flag,
           );
       kept = λ told. rw kept.storage.bytes at (c.in_ok-flag.ensures.reader.kept (rw kept.storage.device.tells told));

@@ -51,7 +51,7 @@ returns-in_err-print-clause-prints g c =
           known-before (λ bytes. TakesFirst (runs_left left bytes) (runs_left later bytes) (Ok c.in_ok-run.field-0)) state now kept.storage.device.tells kept.storage.bytes c.in_ok-run.ensures.run told in (
             inr c.in_err-print.ensures.fault,
             lines-failed run_lines (runs_left c.args.runs.now state.byte_at) printed.0 (runs_left left state.byte_at) (runs_left later state.byte_at) c.in-Some.run' _ _ _ printed.1
-                (rw c.in-Some.is at taken) printed.2 (rw c.to_line.ensures at (rw c.as_bytes.ensures at c.in_err-print.ensures.part)),
+                (rw c.in-Some.is at taken) printed.2 (rw c.put_in.ensures at (rw c.as_bytes.ensures at c.in_err-print.ensures.part)),
           );
     })
 
@@ -70,7 +70,7 @@ loop-run-preserved g c =
           let is = rw c.in-Some.is at taken in (
             printed.0 ++ (c.in-Some.run' ∷ []),
             items-more (runs_left c.args.runs.now state.byte_at) printed.0 (runs_left left state.byte_at) (runs_left later state.byte_at) c.in-Some.run' printed.1 is,
-            lines-more run_lines printed.0 c.in-Some.run' _ _ _ printed.2 (rw c.to_line.ensures at (rw c.as_bytes.ensures at c.in_ok-print.ensures.text)),
+            lines-more run_lines printed.0 c.in-Some.run' _ _ _ printed.2 (rw c.put_in.ensures at (rw c.as_bytes.ensures at c.in_ok-print.ensures.text)),
             c.in_ok-totals.ensures.totals ∙ ap (λ totals. with_clusters totals c.in-Some.run'.first c.in-Some.run'.count) printed.3 ∙ totals-run printed.0 c.in-Some.run',
           );
       kept = λ told. rw kept.storage.bytes at (c.in_ok-run.ensures.reader.kept (rw kept.storage.device.tells told));

@@ -44,7 +44,7 @@ returns-in_err-print-clause-prints g c =
             runs_of-more tables state.byte_at c.args.layout.now.position left.position printed.0 run printed.1 is,
             inr (
               (c.in_err-print.ensures.fault, reads-calm left.position _ _ reads),
-              rw (run_lines-more printed.0 run) (part-after _ _ _ _ _ printed.3 (rw c.to_line.ensures at (rw c.as_bytes.ensures at c.in_err-print.ensures.part))),
+              rw (run_lines-more printed.0 run) (part-after _ _ _ _ _ printed.3 (rw c.put_in.ensures at (rw c.as_bytes.ensures at c.in_err-print.ensures.part))),
             ),
           );
     })
@@ -83,7 +83,7 @@ loop-run-preserved g c =
             printed.0 ++ (run ∷ []),
             rw comes.2 (runs_of-more tables state.byte_at c.args.layout.now.position left.position printed.0 run printed.1 is),
             rw comes.2 is.within,
-            rw (run_lines-more printed.0 run) (Appends-trans _ _ _ _ _ printed.3 (rw c.to_line.ensures at (rw c.as_bytes.ensures at c.in_ok-print.ensures.text))),
+            rw (run_lines-more printed.0 run) (Appends-trans _ _ _ _ _ printed.3 (rw c.put_in.ensures at (rw c.as_bytes.ensures at c.in_ok-print.ensures.text))),
           );
       kept = λ told. rw kept.storage.bytes at (moves.kept (rw kept.storage.device.tells told));
       tables = ap layout_tables moves.same ∙ kept.tables;

@@ -1,5 +1,5 @@
 use Rattle.std.proofs.Common.{◌≡◌, ℕ, List, append_assoc, ap, codes, decimal, ◌%◌, ◌/◌, ◌++◌, ◌∙◌}
-use Rattle.qcow2_session.proofs.commands.layout.picture.ShapeToLine.to_line.Goals as goal
+use Rattle.qcow2_session.proofs.commands.layout.picture.ShapeToLine.put_in.Goals as goal
 
 eleven : (a b c d e f g h i j k : List ℕ) → a ++ (b ++ (c ++ (d ++ (e ++ (f ++ (g ++ (h ++ (i ++ (j ++ k))))))))) ≡ a ++ b ++ c ++ d ++ e ++ f ++ g ++ h ++ i ++ j ++ k
 eleven a b c d e f g h i j k = simp append_assoc
@@ -7,7 +7,7 @@ eleven a b c d e f g h i j k = simp append_assoc
 pub returns : goal.returns
 returns c =
     let shape = c.args.self.now in
-    let end = c.prepend.ensures ∙ ap (λ line. codes "z'/>\n" ++ line) c.new-line.ensures in
+    let end = c.prepend.ensures ∙ ap (λ line. codes "z'/>\n" ++ line) c.clear.ensures in
     let back = c.prepend_decimal.ensures.text ∙ ap (λ line. decimal shape.count ++ line) end in
     let height = c.prepend-2.ensures ∙ ap (λ line. codes "v1h-" ++ line) back in
     let width = c.prepend_decimal-2.ensures.text ∙ ap (λ line. decimal shape.count ++ line) height in
