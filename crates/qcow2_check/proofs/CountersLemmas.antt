@@ -164,6 +164,16 @@ pub no_block : (reader : CountersState) (image : Image) (from to : ℕ)
 no_block reader image from to none =
     λ c after before. free_unused reader.header reader.reftable image c (rw (none c after before, counter_of) refl)
 
+-- where nothing is reported of what comes before a cluster, nor of what comes from it on, nothing is of both
+pub reports_join : (reader : CountersState) (image : Image) (a b c : ℕ) → ReportNone reader image a b → ReportNone reader image b c
+    → ReportNone reader image a c
+reports_join reader image a b c first second = λ k after before. elim (cases_lt k b) [
+  | inl low ↦ first k after low
+  | inr high ↦ second k high before
+]
+
+pub ruleset joined_reports = (all_free, reports_join)
+
 -- nothing is reported of unused clusters in a block that is named before
 pub again_reports : (reader : CountersState) (image : Image) (c to : ℕ) → is_counted_again reader.header reader.reftable c ≡ true
     → to ≤ c - c % counters_each reader.header + counters_each reader.header → ReportNone reader image c to

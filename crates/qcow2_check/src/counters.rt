@@ -376,9 +376,46 @@ impl<'a> Counters<'a> {
         zero_counters(block, index, count.min(left) as usize) as u64
     }
 
+    // `free_end` as far as one entry of the refcount table shows it: the end of its range if it names no
+    // block, or one that is counted again, or else `from`.
+    #[tactic(auto, using(crate::proofs::CountersLemmas::no_block))]
+    fn unreported_end(&self, from: HostCluster, limit: u64) -> u64
+        requires some { from.0 ≤ limit }
+        requires fits { from.0 < max_file_length }
+        ensures from { from.0 ≤ result }
+        ensures within { result ≤ limit }
+        ensures none { (image : Image) → ReportNone self.now image from.0 result }
+    {
+        if !self.has_block(from) {
+            return self.block_end(from).min(limit);
+        }
+        if self.is_counted_again(from) {
+            return self.range_end(from).min(limit);
+        }
+        from.0
+    }
+
+    // `free_end` as far as the refcount table shows it.
+    #[tactic(auto, using(crate::proofs::CountersLemmas::reports_join))]
+    fn reported_start(&self, from: HostCluster, limit: u64) -> u64
+        requires some { from.0 ≤ limit }
+        requires fits { from.0 < max_file_length }
+        ensures from { from.0 ≤ result }
+        ensures within { result ≤ limit }
+        ensures none { (image : Image) → ReportNone self.now image from.0 result }
+    {
+        let mut passed = from.0;
+        let mut start = self.unreported_end(from, limit);
+        while passed < start && start < MAX_FILE_LENGTH {
+            passed = start;
+            start = self.unreported_end(HostCluster(passed), limit);
+        }
+        start
+    }
+
     /// A cluster before which, from `from` on, refcounts of unused clusters are reported as 0, as far as the
     /// refcount table and the cached block show it. At most `limit`. Its own may be reported as 0 too.
-    #[tactic(auto, using(crate::proofs::CountersLemmas::no_block, crate::proofs::CountersLemmas::all_free))]
+    #[tactic(auto, using(crate::proofs::CountersLemmas::joined_reports))]
     pub fn free_end(&self, from: HostCluster, limit: u64) -> u64
         requires some { from.0 ≤ limit }
         requires fits { from.0 < max_file_length }
@@ -387,13 +424,8 @@ impl<'a> Counters<'a> {
         ensures free { (image : Image) → IsKeptBlockOf self.now.header image self.now.block →
             ReportNone self.now image from.0 result }
     {
-        if !self.has_block(from) {
-            return self.block_end(from).min(limit);
-        }
-        if self.is_counted_again(from) {
-            return self.range_end(from).min(limit);
-        }
-        from.0 + self.cached_zeros(from, limit - from.0)
+        let start = self.reported_start(from, limit);
+        start + self.cached_zeros(HostCluster(start), limit - start)
     }
 
     /// A cluster from which on, to before `end`, all refcounts are 0, as far as the cached block shows it.
@@ -447,6 +479,11 @@ impl<'a> Counters<'a> {
         ensures placed { blocks_fault self.now.header self.now.reftable ≡ None }
     {
         &self.reftable
+    }
+
+    /// How many bytes of memory it keeps beside the refcount table and the cached block.
+    pub fn bytes(&self) -> usize {
+        self.repeats.bytes()
     }
 
     /// The refcount table. Frees the memory of the cached block.

@@ -213,7 +213,7 @@ impl<'a> Findings<'a> {
             reftable: counters.reftable(),
         };
         let repeats = Repeats::new(alloc, &l1_table)?;
-        let mut windows = Windows::new(&tables);
+        let mut windows = Windows::new(&tables, counters.bytes());
         let tally = windows.count_and_mark(image, &tables, &repeats, 0, &mut marks)?;
         Ok(Findings {
             header,

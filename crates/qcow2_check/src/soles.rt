@@ -117,8 +117,8 @@ impl Soles {
         Ok(soles)
     }
 
-    // Marks the clusters that the refcount block of this cluster counts, if it has one. It must be the first
-    // of them.
+    // Marks the clusters that the refcount block of this cluster counts, if it has one that no entry before
+    // names. It must be the first of them.
     fn mark_block<S: Storage>(
         &mut self,
         image: &mut S,
@@ -137,6 +137,9 @@ impl Soles {
         ensures fault { IfErr result IsFromOutside }
         ensures storage { OnlyReads result (S.state image.old) (S.state image.new) }
     {
+        if counters.is_counted_again(first) {
+            return Ok(());
+        }
         counters.get_in_order(image, first)?;
         if let Some(block) = counters.kept_for(first) {
             prove!(counters.header().rb_entries() >= EACH);

@@ -64,7 +64,8 @@ fn dense_cells(counted: u64, room: usize, is_wide: bool) -> usize
 pub struct Windows {
     // The first cluster after all those that the refcount blocks count.
     counted: u64,
-    // The bytes that a decoded refcount block and the marks of clusters take beside the cells.
+    // The bytes that a decoded refcount block, the marks of clusters and what the caller keeps take beside
+    // the cells.
     beside: usize,
     is_wide: bool,
     // Whether an earlier window had few clusters with references: later windows then use mostly the map.
@@ -72,8 +73,8 @@ pub struct Windows {
 }
 
 impl Windows {
-    /// The windows of an image with these tables.
-    pub fn new(tables: &ImageTables<'_>) -> Windows
+    /// The windows of an image with these tables, given how many bytes the caller keeps beside them.
+    pub fn new(tables: &ImageTables<'_>, kept: usize) -> Windows
         ensures counted { IsCountedEnd tables.now.header tables.now.reftable result.counted }
         ensures is_sparse { result.is_sparse ≡ false }
     {
@@ -81,7 +82,7 @@ impl Windows {
         let block_bytes = tables.header.rb_entries().max(tables.header.cluster_size());
         Windows {
             counted,
-            beside: block_bytes + most_mark_bytes(counted),
+            beside: (block_bytes + most_mark_bytes(counted)).saturating_add(kept),
             is_wide: most_uses(tables) >= MANY_USES,
             is_sparse: false,
         }

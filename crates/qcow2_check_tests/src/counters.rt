@@ -1,6 +1,6 @@
 //! The refcounts in an image's own refcount blocks, and how often the blocks are read.
 
-use crate::readers::{counters_of, flags_of};
+use crate::readers::{counters_of, flags_of, free_end_of};
 use crate::sample_image::sample_image;
 use qcow2_base::{Fault, MemStorage};
 use qcow2_testing::damages::{FoundFlag, FoundPlace};
@@ -40,6 +40,43 @@ fn check_counted(alloc: Global, row: Counted<'_>) -> Result<(), Fail> {
 #[test]
 fn a_counter_is_that_of_its_block_or_0(rt: HostRuntime) -> Result<(), Fail> {
     each(rt.alloc(), COUNTED, check_counted)
+}
+
+#[derive(Clone, Copy)]
+struct Unreported<'a> {
+    name: &'a str,
+    changes: Numbers<'a>,
+    from: u64,
+    end: u64,
+}
+
+// The limit of clusters that are passed.
+const LIMIT: u64 = 1 << 40;
+
+// A block counts 256 clusters, and the refcount table has 64 entries.
+const UNREPORTED: &[Unreported<'static>] = rows! { Unreported:
+    { name: "the first block", changes: &[], from: 5, end: 5 },
+    { name: "all after the first block", changes: &[], from: 256, end: LIMIT },
+    { name: "up to a later block", changes: &[(REFTABLE + 24, 1 << 20)], from: 300, end: 768 },
+    { name: "past a block named again", changes: &[(REFTABLE + 24, BLOCK)], from: 300, end: LIMIT },
+    { name: "from within a block named again", changes: &[(REFTABLE + 8, BLOCK), (REFTABLE + 32, 1 << 20)],
+        from: 400, end: 1024 },
+    { name: "from the last cluster before the limit", changes: &[], from: LIMIT - 1, end: LIMIT },
+    { name: "from the limit", changes: &[], from: LIMIT, end: LIMIT },
+};
+
+fn check_unreported(alloc: Global, row: Unreported<'_>) -> Result<(), Fail> {
+    let mut image = sample_image(alloc, row.changes)?;
+    same(
+        free_end_of(alloc, &mut image, row.from, LIMIT)?,
+        row.end,
+        row.name,
+    )
+}
+
+#[test]
+fn ranges_of_which_nothing_is_reported_are_passed_at_once(rt: HostRuntime) -> Result<(), Fail> {
+    each(rt.alloc(), UNREPORTED, check_unreported)
 }
 
 // The offsets of two refcount blocks in clusters of 64 KiB, and one in each that only a read of the whole

@@ -1,6 +1,6 @@
 //! The tested calls, without their contracts.
 
-use qcow2_base::{Device, Fault, HostCluster, Storage};
+use qcow2_base::{Device, Fault, HostCluster, MAX_FILE_LENGTH, Storage};
 use qcow2_check::{Counters, Finding, Findings, FlagPlace, WrongFlag};
 use qcow2_metadata::Header;
 use qcow2_repair::repair_image;
@@ -99,6 +99,20 @@ pub(crate) fn counters_of<S: Storage>(
     let mut found = Vec::new(alloc);
     read_counters(alloc, image, &header, clusters, &mut found)?;
     Ok(found)
+}
+
+/// Returns the cluster up to which the refcount table shows, without a read, that no refcounts of unused
+/// clusters are reported from one on. It is at most `limit`.
+pub(crate) fn free_end_of<S: Storage>(
+    alloc: Global,
+    image: &mut S,
+    from: u64,
+    limit: u64,
+) -> Result<u64, Fault> {
+    let header = header_of(alloc, image)?;
+    let counters = Counters::new(alloc, image, &header)?;
+    let from = HostCluster(from.min(limit).min(MAX_FILE_LENGTH - 1));
+    Ok(counters.free_end(from, limit))
 }
 
 fn read_counters<S: Storage>(

@@ -96,7 +96,7 @@ impl<'a> Layout<'a> {
             reftable: counters.reftable(),
         };
         let repeats = Repeats::new(alloc, &l1_table)?;
-        let mut windows = Windows::new(&tables);
+        let mut windows = Windows::new(&tables, counters.bytes());
         let window = windows.place(image, &tables, &repeats, 0)?;
         Ok(Layout {
             header,

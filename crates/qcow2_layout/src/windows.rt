@@ -60,8 +60,8 @@ fn dense_cells(counted: u64, room: u64, is_wide: bool) -> usize
 pub(crate) struct Windows {
     // The first cluster after all those that the refcount blocks count.
     counted: u64,
-    // The bytes of a decoded refcount block.
-    block_bytes: u64,
+    // The bytes that a decoded refcount block and what the caller keeps take beside the cells.
+    beside: u64,
     // Whether guest data may have a code that doesn't fit a narrow cell.
     is_wide: bool,
     // Whether an earlier window had few clusters with references: later windows then use mostly the map.
@@ -69,8 +69,8 @@ pub(crate) struct Windows {
 }
 
 impl Windows {
-    /// The windows of an image with these tables.
-    pub(crate) fn new(tables: &ImageTables<'_>) -> Windows
+    /// The windows of an image with these tables, given how many bytes the caller keeps beside them.
+    pub(crate) fn new(tables: &ImageTables<'_>, kept: usize) -> Windows
         ensures counted { IsCountedEnd tables.now.header tables.now.reftable result.counted }
         ensures is_sparse { result.is_sparse ≡ false }
     {
@@ -78,7 +78,10 @@ impl Windows {
         let l1_entries = tables.l1_table.entries() as u64;
         Windows {
             counted: counted_end(header, tables.reftable),
-            block_bytes: header.rb_entries().max(header.cluster_size()) as u64,
+            beside: header
+                .rb_entries()
+                .max(header.cluster_size())
+                .saturating_add(kept) as u64,
             is_wide: l1_entries.saturating_mul(header.l2_entries() as u64) >= MANY_CLUSTERS,
             is_sparse: false,
         }
@@ -98,7 +101,7 @@ impl Windows {
             };
         }
         let counted = self.counted.saturating_sub(first);
-        let beside = self.block_bytes.saturating_add(more as u64);
+        let beside = self.beside.saturating_add(more as u64);
         let room = MOST_BYTES - beside.min(MOST_BYTES / 2);
         let dense = dense_cells(counted, room, self.is_wide) as u64;
         Size {

@@ -90,8 +90,12 @@ right-fits : (tables : ImageTables) (image : Image) (c : ℕ) → tables.header.
     → (is_wrong (finding_at tables image c) ≡ false) ⊎ (refusal_of tables.header tables.reftable (finding_at tables image c) ≡ None)
     → image_uses_of tables image c ≤ greatest_counter tables.header.base.refcount_order
 right-fits tables image c orders bytes some (inl right) =
-    omega (arith, (wrong-parts (finding_at tables image c) right).0, reported-within tables image c,
-    counter-fits tables.header tables.reftable image c orders bytes)
+    omega (
+      arith,
+      (wrong-parts (finding_at tables image c) right).0,
+      reported-within tables image c,
+      counter-fits tables.header tables.reftable image c orders bytes,
+    )
 right-fits tables image c orders bytes some (inr fine) =
     fine-fits tables.header tables.reftable (finding_at tables image c) some fine
 

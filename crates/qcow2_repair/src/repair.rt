@@ -86,11 +86,12 @@ fn repair_written<S: Device>(
     ensures storage { ReportsFailures result (S.state image.old) (S.state image.new) }
 {
     image.sync()?;
-    let windows = Windows::new(&ImageTables {
+    let tables = ImageTables {
         header,
         l1_table,
         reftable,
-    });
+    };
+    let windows = Windows::new(&tables, 0);
     let mut kept = KeptTally { windows, tally };
     repair_tables(image, header, l1_table, reftable, &mut kept)
 }

@@ -97,16 +97,23 @@ pub(super) fn unpack_narrow(list: &mut [u8], order: u32, bytes: &[u8])
     }
 }
 
-// Reads the refcounts of order `ORDER`, of which a byte has `PER`.
+// Reads the refcounts of order `ORDER`, of which a byte has `PER`. Most bytes are the same as those before
+// them.
 fn unpack_bytes<const ORDER: u32, const PER: usize>(list: &mut [u8], bytes: &[u8])
     requires order { ORDER ≤ 2 }
     requires per { PER ≡ per_byte ORDER }
     requires count { length list.old ≡ PER * length bytes.now }
     ensures { list.new ≡ counters_at ORDER (image_of bytes.now) 0 (length list.old) }
 {
+    let mut last = 0;
+    let mut counters = unpack_byte::<ORDER, PER>(last);
     for index in 0..bytes.len() {
+        if bytes[index] != last {
+            last = bytes[index];
+            counters = unpack_byte::<ORDER, PER>(last);
+        }
         let first = PER * index;
-        list[first..first + PER].copy_from_slice(&unpack_byte::<ORDER, PER>(bytes[index]));
+        list[first..first + PER].copy_from_slice(&counters);
     }
 }
 
