@@ -183,13 +183,17 @@ def header_alone(path, length):
 
 
 class Case(NamedTuple):
-    """A hostile file: its name, the timed commands, its maker with its arguments, and whether clusters lie far apart."""
+    """A hostile file: its name, the timed commands, its maker with its arguments, and whether clusters lie far apart.
+
+    `unmet` has pairs of a command and a bound that it is known to miss, as docs/PERFORMANCE.md says.
+    """
 
     name: str
     commands: tuple
     maker: Callable
     words: tuple
     is_apart: bool = False
+    unmet: tuple = ()
 
     def write(self, path):
         """Writes the file, and returns its measures."""

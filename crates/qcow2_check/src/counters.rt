@@ -21,6 +21,10 @@ use std::marker::Model;
 // the refcounts that were read alone cost as much as it.
 const BYTES_EACH: usize = 4096;
 
+// The most refcount table entries that are passed at once: those after a used cluster are passed again after
+// the next one.
+const RANGES: usize = 64;
+
 // The number of refcounts that are tested as one group.
 const TOGETHER: usize = 64;
 
@@ -395,7 +399,7 @@ impl<'a> Counters<'a> {
         from.0
     }
 
-    // `free_end` as far as the refcount table shows it.
+    // `free_end` as far as the refcount table shows it, `RANGES` entries at most.
     #[tactic(auto, using(crate::proofs::CountersLemmas::reports_join))]
     fn reported_start(&self, from: HostCluster, limit: u64) -> u64
         requires some { from.0 ≤ limit }
@@ -406,7 +410,9 @@ impl<'a> Counters<'a> {
     {
         let mut passed = from.0;
         let mut start = self.unreported_end(from, limit);
-        while passed < start && start < MAX_FILE_LENGTH {
+        let mut left = RANGES;
+        while passed < start && start < MAX_FILE_LENGTH && left > 0 {
+            left -= 1;
             passed = start;
             start = self.unreported_end(HostCluster(passed), limit);
         }
