@@ -11,7 +11,7 @@ from itertools import groupby
 from typing import NamedTuple, Optional
 
 from .draft import put_entry, put_refcount
-from .faults import L1_SHORT, OVERLAP, REFCOUNT_RANGE, TABLE_PLACE, UNCOUNTED
+from .faults import INCOMPATIBLE, L1_SHORT, OVERLAP, REFCOUNT_RANGE, TABLE_PLACE, UNCOUNTED
 from .image import COMPRESSED, COPIED, ENTRY_SIZE, GREATEST_END, LUKS, SECTOR, ZERO, Entry, Image, Refused
 
 # The kinds of lines, in the order of the last line, and those that may destroy data.
@@ -22,6 +22,8 @@ HARMFUL = {"missing", "shared", "false"}
 def examine(image, to_repair):
     """Reads all parts of an image in the order of a check, and raises the fault in which that ends before any line."""
     header = image.header
+    if to_repair and (header.is_dirty or header.is_corrupt):
+        raise Refused(INCOMPATIBLE)
     if header.nb_snapshots or header.crypt_method >= LUKS:
         raise Refused(UNCOUNTED)
     if to_repair and header.is_l1_short:
@@ -173,15 +175,14 @@ class Check:
     def printed(self):
         """The program's output, and then its status if that isn't 0."""
         header = self.header
-        if not self.totals and not header.is_l1_short:
-            return "consistent\n"
+        marks = "dirty\n" * header.is_dirty + "corrupt\n" * header.is_corrupt
         short = f"short-l1 {header.l1_size} {header.l1_needed}\n" if header.is_l1_short else ""
-        last = " ".join(f"{kind} {self.totals[kind]}" for kind in KINDS)
-        return f"{self.text}{short}{last}\n{self.status()}"
+        last = " ".join(f"{kind} {self.totals[kind]}" for kind in KINDS) if self.status() else "consistent"
+        return f"{self.text}{marks}{short}{last}\n{self.status()}"
 
     def status(self):
         """The line of the status, if that isn't 0."""
-        if self.header.is_l1_short or HARMFUL & self.totals.keys():
+        if self.header.is_corrupt or self.header.is_l1_short or HARMFUL & self.totals.keys():
             return "status 4\n"
         return "status 3\n" if self.totals else ""
 
@@ -201,6 +202,8 @@ class Check:
             "shared": totals["shared"],
             "false-flags": totals["false"],
             "late-flags": totals["late"],
+            "dirty": header.is_dirty,
+            "corrupt": header.is_corrupt,
             "allocated-clusters": counts["allocated"],
             "filename": name,
             "format": "qcow2",

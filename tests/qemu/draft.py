@@ -9,7 +9,8 @@ from array import array
 from collections import Counter
 from typing import NamedTuple
 
-from .image import COMPRESSED, COPIED, DATA_FILE, ENTRY_SIZE, EXTERNAL_DATA, SECTOR, ZERO, Geometry, Header
+from .image import COMPRESSED, COPIED, CORRUPT, DATA_FILE, DIRTY, ENTRY_SIZE, EXTERNAL_DATA, SECTOR, ZERO
+from .image import Geometry, Header
 
 # The bytes that are written at once, or become a hole.
 PAGE = 4096
@@ -100,7 +101,7 @@ class Draft:
     """An image before it is written: its tables, as dictionaries of entries other than 0, and its refcounts."""
 
     def __init__(self, chance):
-        self.chance = chance
+        self.chance, self.marks = chance, 0
         self.version = chance.choice([2, 3, 3, 3])
         order = chance.randrange(7) if self.version > 2 else 4
         self.geometry = Geometry(chance.choice(CLUSTER_BITS), order)
@@ -116,7 +117,8 @@ class Draft:
     def __str__(self):
         outside = ", data outside" if self.is_external else ""
         counters = f"counters of {self.geometry.refcount_bits} bits"
-        return f"version {self.version}, clusters of {self.cluster_size}, {counters}{outside}"
+        marks = ", dirty" * (self.marks & DIRTY != 0) + ", corrupt" * (self.marks & CORRUPT != 0)
+        return f"version {self.version}, clusters of {self.cluster_size}, {counters}{outside}{marks}"
 
     # Making it
 
@@ -248,7 +250,7 @@ class Draft:
             l1_table_offset=l1.first * self.cluster_size,
             refcount_table_offset=refcount_table.first * self.cluster_size,
             refcount_table_clusters=refcount_table.count,
-            incompatible_features=EXTERNAL_DATA if self.is_external else 0,
+            incompatible_features=self.marks | (EXTERNAL_DATA if self.is_external else 0),
         )
         data_file = f"{name}.data".encode()
         extension = struct.pack(">4sI", DATA_FILE, len(data_file)) + data_file.ljust(-(-len(data_file) // 8) * 8, b"\0")
@@ -364,9 +366,11 @@ DAMAGES += [repeat_block, cut_file]
 
 
 def damaged_draft(chance):
-    """A draft with some damages, or none, and their names."""
+    """A draft with some damages, or none, and their names. It may be marked dirty or corrupt."""
     draft = Draft(chance)
     damages = [chance.choice(DAMAGES) for _ in range(chance.randrange(MOST_DAMAGES + 1))]
     for damage in damages:
         damage(draft)
+    if draft.version > 2 and chance.random() < 0.2:
+        draft.marks = chance.choice([DIRTY, CORRUPT, DIRTY | CORRUPT])
     return draft, [damage.__name__ for damage in damages]

@@ -41,6 +41,9 @@ HEADER_LENGTH = FIELDS.size + MORE_FIELDS.size
 # The place of the autoclear features in the header, after two other sets of features, and the bytes of a set.
 AUTOCLEAR_OFFSET, AUTOCLEAR_LENGTH = FIELDS.size + 2 * 8, 8
 
+# The incompatible features of an image that is marked dirty or corrupt.
+DIRTY, CORRUPT = 1 << 0, 1 << 1
+
 # The incompatible feature of an external data file, and the autoclear feature by which that file is the plain disk.
 EXTERNAL_DATA, RAW_DATA = 1 << 2, 1 << 1
 
@@ -141,6 +144,16 @@ class Header(Geometry):
     def is_external(self):
         """Whether guest data lies in an external data file, whose clusters have no refcounts."""
         return self.incompatible_features & EXTERNAL_DATA != 0
+
+    @property
+    def is_dirty(self):
+        """Whether the image is marked dirty."""
+        return self.incompatible_features & DIRTY != 0
+
+    @property
+    def is_corrupt(self):
+        """Whether the image is marked corrupt."""
+        return self.incompatible_features & CORRUPT != 0
 
     @property
     def guest_clusters(self):

@@ -4,7 +4,7 @@ import random
 from typing import NamedTuple
 
 from .image import BACKING_FORMAT, Image
-from .tools import create_image, fill_image, take_snapshot
+from .tools import create_image, cut_fill, fill_image, take_snapshot
 
 # The histories of guest clusters, as commands of qemu-io. Zeros have a host cluster if data was there or the image is
 # preallocated, but those of `hole` have none.
@@ -34,11 +34,17 @@ class Sample(NamedTuple):
     histories: str = PLAIN + " compressed rewritten"
     has_snapshot: bool = False
     forgets_format: bool = False
+    is_cut: bool = False
 
     @property
     def is_external(self):
         """Whether guest data lies in an external data file."""
         return "data_file=" in self.options
+
+    @property
+    def is_for_all_commands(self):
+        """Whether each command accepts its features."""
+        return not self.is_cut and "zstd" not in self.options
 
     @property
     def is_backed(self):
@@ -91,6 +97,14 @@ SAMPLES = [
     Sample("snapshot-1", "", "64G", has_snapshot=True),
     Sample("snapshot-2", "cluster_size=512,refcount_bits=64", "3M", has_snapshot=True),
     Sample("snapshot-3", "cluster_size=4k,compat=0.10", "100M", has_snapshot=True),
+    # another compression
+    Sample("zstd-1", "compression_type=zstd", "64G"),
+    Sample("zstd-2", "compression_type=zstd,cluster_size=4k,refcount_bits=1", "10M"),
+    Sample("zstd-3", "compression_type=zstd,cluster_size=2M", "1G"),
+    # left dirty: qemu-io was killed before it wrote refcounts
+    Sample("dirty-1", "lazy_refcounts=on", "64G", is_cut=True),
+    Sample("dirty-2", "lazy_refcounts=on,cluster_size=512", "3M", is_cut=True),
+    Sample("dirty-3", "lazy_refcounts=on,cluster_size=4k,refcount_bits=1,compression_type=zstd", "1G", is_cut=True),
 ]
 
 
@@ -123,6 +137,8 @@ def make_sample(sample, folder):
         fill_image(path, [command(header, "write", cluster) for cluster in clusters[::3]])
     if sample.forgets_format:
         forget_format(path)
+    if sample.is_cut:
+        cut_fill(path, [command(header, "write", cluster) for cluster in clusters[::3]])
     return path
 
 

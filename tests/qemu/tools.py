@@ -4,6 +4,7 @@ import argparse
 import json
 import os
 import shutil
+import signal
 import subprocess
 import sys
 import tempfile
@@ -110,6 +111,12 @@ def fill_image(path, commands, image_format="qcow2"):
     """Runs commands of qemu-io on an image, without syncs to the device."""
     text = "".join(f"{command}\n" for command in commands)
     run(["qemu-io", "-t", "unsafe", "-f", image_format, path.name], path.parent, input=text)
+
+
+def cut_fill(path, commands):
+    """Runs commands of qemu-io on an image, and kills it before it closes the image."""
+    text = "".join(f"{command}\n" for command in [*commands, "flush", f"sigraise {signal.SIGKILL:d}"])
+    run(["qemu-io", "-f", "qcow2", path.name], path.parent, (-signal.SIGKILL,), input=text)
 
 
 def take_snapshot(path, name):

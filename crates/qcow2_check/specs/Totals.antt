@@ -1,9 +1,10 @@
 -- How many clusters and flags of each kind does a check find, and what is its verdict?
-use Rattle.std.specs.Prelude.{ℕ, Bool, not, ◌&&◌, ◌==◌, ◌+◌, if◌then◌else◌, List}
+use Rattle.std.specs.Prelude.{ℕ, Bool, not, ◌&&◌, ◌||◌, ◌==◌, ◌+◌, if◌then◌else◌, List}
 use Rattle.std.specs.List.{sum_by}
 use Rattle.qcow2_base.specs.Storage.{Image}
-use Rattle.qcow2_metadata.specs.Header.{HeaderRecord}
+use Rattle.qcow2_metadata.specs.Header.{HeaderRecord, has_feature}
 use Rattle.qcow2_metadata.specs.Table.L2Guards.{one_if}
+use Rattle.qcow2_metadata.specs.declared.header.features.IncompatibleFeatures.TheVariants.{Corrupt}
 use Rattle.qcow2_check.specs.Findings.{image_findings, is_leaked, is_missing}
 use Rattle.qcow2_check.specs.Flags.{image_flags}
 use Rattle.qcow2_check.specs.L1Length.{is_l1_short}
@@ -72,6 +73,11 @@ verdict_of totals =
     if harms_nobody totals then (if totals.leaked == 0 && (totals.late_flags == 0) then Fine else Harmless)
     else Harmful
 
--- the verdict on an image with this header, of what was found: an L1 table that is too short for the disk hides references
+-- whether an image with this header has damage that isn't counted: it is marked corrupt, or its L1 table is too short for the
+-- disk, which hides references
+abbrev pub is_harmed : HeaderRecord → Bool
+is_harmed header = has_feature Corrupt header.base || is_l1_short header
+
+-- the verdict on an image with this header, of what was found
 abbrev pub verdict_in : HeaderRecord → Totals → Verdict
-verdict_in header totals = if is_l1_short header then Harmful else verdict_of totals
+verdict_in header totals = if is_harmed header then Harmful else verdict_of totals

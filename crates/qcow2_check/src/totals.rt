@@ -5,14 +5,14 @@ ghost use Rattle.qcow2_base.specs.Storage.{OnImage, OnlyReads};
 ghost use Rattle.qcow2_base.specs.declared.fault.Fault.TheVariants.{NoMemory};
 ghost use Rattle.qcow2_check.specs.Findings.{IsLaterFault};
 ghost use Rattle.qcow2_check.specs.Flags.{IsFlagsOf, MovesFlags, flags_left};
-ghost use Rattle.qcow2_check.specs.Totals.{corruptions_in, harms_nobody, no_totals, verdict_in, verdict_of, with_clusters, with_flag, with_flags};
+ghost use Rattle.qcow2_check.specs.Totals.{corruptions_in, harms_nobody, is_harmed, no_totals, verdict_in, verdict_of, with_clusters, with_flag, with_flags};
 
 use crate::findings::Finding;
 use crate::flags::{Flags, WrongFlag};
 use crate::l1_length::is_l1_short;
 use crate::verdict::Verdict;
 use qcow2_base::{Fault, Storage};
-use qcow2_metadata::Header;
+use qcow2_metadata::{Header, IncompatibleFeatures};
 
 /// The numbers of wrong clusters and copied flags that a check found. A cluster may count in several.
 #[derive(Clone, Copy, Debug, PartialEq, Eq)]
@@ -42,6 +42,14 @@ fn count_if(is_kind: bool, count: u64) -> u64
     ensures { result ≡ (if is_kind then count else 0) }
 {
     if is_kind { count } else { 0 }
+}
+
+// Whether an image with this header has damage that isn't counted: it is marked corrupt, or its L1 table is
+// too short for the disk.
+fn is_harmed(header: &Header) -> bool
+    ensures { result ≡ is_harmed header.now }
+{
+    header.has_feature(IncompatibleFeatures::Corrupt) || is_l1_short(header)
 }
 
 impl Totals {
@@ -124,8 +132,8 @@ impl Totals {
         self.missing == 0 && self.shared == 0 && self.false_flags == 0
     }
 
-    /// The verdict on the findings alone, whatever the header says.
-    pub fn found_verdict(&self) -> Verdict
+    // The verdict on the findings alone, whatever the header says.
+    fn found_verdict(&self) -> Verdict
         ensures { result ≡ verdict_of self.now }
     {
         if !self.harms_nobody() {
@@ -137,12 +145,12 @@ impl Totals {
         }
     }
 
-    /// The verdict on an image with this header. An L1 table too short for the disk hides references, so
-    /// clusters that seem leaked may be in use: the verdict is then `Harmful`.
+    /// The verdict on an image with this header. It is `Harmful` if the image is marked corrupt. It also is
+    /// if the L1 table is too short for the disk, since clusters that seem leaked may then be in use.
     pub fn verdict(&self, header: &Header) -> Verdict
         ensures { result ≡ verdict_in header.now self.now }
     {
-        if is_l1_short(header) {
+        if is_harmed(header) {
             return Verdict::Harmful;
         }
         self.found_verdict()

@@ -1,5 +1,5 @@
 use Rattle.std.proofs.lemmas.Bool.Decides.{nat_tests}
-use Rattle.std.proofs.Common.{◌≡◌, ◌≢◌, Ok, Err, arith}
+use Rattle.std.proofs.Common.{◌≡◌, ◌≢◌, ◌∙◌, Result, Ok, Err, arith}
 use Rattle.std.specs.Result.{IsErrOf}
 use Rattle.qcow2_base.specs.Storage.{OnlyReads, ReadsFor, StorageState}
 use Rattle.qcow2_base.specs.declared.fault.Fault.{Fault}
@@ -38,3 +38,13 @@ reads-other fault old new other reads = grind (arith, nat_tests, reads)
 pub reads-passed_on : {A told : Type 0} (fault : Fault) (first second third : StorageState) →
     OnlyReads {T = A} (Err fault) first second → ReadsFor told second third → (fault ≡ Storage → told) → ReadsFor told first third
 reads-passed_on fault first second third one other passed_on = grind (arith, nat_tests, one, other, passed_on)
+
+-- a second call that only reads leaves what both leave
+pub reads-again : {A B : Type 0} (x : A) (answer : Result B Fault) (a b c : StorageState) → OnlyReads (Ok x) a b → OnlyReads answer b c
+    → OnlyReads answer a c
+reads-again x answer a b c first second = record {
+  told = grind (arith, nat_tests, first.told, second.told);
+  bytes = second.bytes ∙ first.bytes;
+  len = second.len ∙ first.len;
+  device = grind (arith, first.device, second.device);
+}

@@ -6,11 +6,10 @@ ghost use Rattle.qcow2_base.specs.declared.fault.Fault.TheVariants.{Storage as S
 
 use super::files::{file_line, unopened_lines};
 use super::locks::lock_lines;
-use super::refusals::{Refusal, refusal_of};
+use super::refusals::{Refusal, load_header, refusal_of};
 use super::searches::Search;
 use qcow2_base::{Device, Fault, FileStorage};
 use qcow2_buffered::BufferedStorage;
-use qcow2_metadata::Header;
 use std::alloc::{AllocError, Global};
 use std::rt::Files;
 
@@ -46,7 +45,7 @@ fn locate_in_file<R: Files + AllocGlobal>(
     path: &str,
 ) -> Result<String, Fault> {
     let mut file = FileStorage::open(rt, path, false)?;
-    match Header::load(rt.alloc(), &mut file, false) {
+    match load_header(rt.alloc(), &mut file, fault) {
         Ok(header) => {
             let Ok(mut image) = BufferedStorage::new(rt.alloc(), file, header.cluster_size()) else {
                 return Err(Fault::NoMemory);

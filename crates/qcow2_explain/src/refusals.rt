@@ -1,7 +1,7 @@
 //! The refusal of an image, with its fault and its places in the image.
 
 ghost use Rattle.std.specs.Prelude.{◌≡◌, IsErrOf};
-ghost use Rattle.qcow2_base.specs.Storage.{ReadsFor};
+ghost use Rattle.qcow2_base.specs.Storage.{OnlyReads, ReadsFor};
 ghost use Rattle.qcow2_base.specs.declared.fault.Fault.TheVariants.{Storage as StorageFailed};
 
 use super::clusters::{cluster_refusal, shared_table_refusal};
@@ -13,7 +13,7 @@ use super::searches::Search;
 use super::tables::table_refusal;
 use qcow2_base::{Fault, MemStorage, Storage, UncountedPart};
 use qcow2_check::{is_l1_short, needed_l1_entries};
-use qcow2_metadata::Header;
+use qcow2_metadata::{AcceptedFeatures, Header};
 use std::alloc::{AllocError, Global};
 
 /// A fault of an image, and where in the image it is.
@@ -55,9 +55,30 @@ pub(super) fn refusal_of<S: Storage>(
 ) -> Result<Option<Refusal>, Fault>
     ensures storage { ReadsFor (IsErrOf result StorageFailed) (S.state image.old) (S.state image.new) }
 {
-    match Header::load(alloc, image, false) {
+    match load_header(alloc, image, fault) {
         Ok(header) => image_refusal(alloc, image, &header, fault, length),
         Err(fault) => Ok(Some(header_refusal(alloc, image, fault)?)),
+    }
+}
+
+/// Loads the header of an image whose fault is looked for. Any fault but 17 may come from a command that
+/// accepts incompatible features, so they are accepted. 17 may also come from one that doesn't.
+pub(super) fn load_header<S: Storage>(
+    alloc: Global,
+    image: &mut S,
+    fault: Fault,
+) -> Result<Header, Fault>
+    ensures storage { OnlyReads result (S.state image.old) (S.state image.new) }
+{
+    let accepted = AcceptedFeatures {
+        dirty: true,
+        corrupt: true,
+        compression_type: true,
+    };
+    let header = Header::load_accepting(alloc, image, false, accepted)?;
+    match fault {
+        Fault::Incompatible(_) => Header::load(alloc, image, false),
+        _ => Ok(header),
     }
 }
 

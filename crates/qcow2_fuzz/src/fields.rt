@@ -26,6 +26,10 @@ pub(crate) struct Fields {
     pub(crate) refcount_order: u32,
     pub(crate) has_autoclear: bool,
     pub(crate) is_external: bool,
+    pub(crate) is_dirty: bool,
+    pub(crate) is_corrupt: bool,
+    /// Whether the compression type is 1 exactly if the features have bit 3, and else 0.
+    pub(crate) agrees_on_compression: bool,
     /// The number of clusters in the file, the last of which may be partial.
     pub(crate) clusters: u64,
 }
@@ -53,6 +57,10 @@ impl Fields {
             refcount_order,
             has_autoclear: is_third && u64_at(bytes, 88) != 0,
             is_external: is_third && u64_at(bytes, 72) & 4 != 0,
+            is_dirty: is_third && u64_at(bytes, 72) & 1 != 0,
+            is_corrupt: is_third && u64_at(bytes, 72) & 2 != 0,
+            agrees_on_compression: !is_third
+                || compression_type(bytes) == u64_at(bytes, 72) >> 3 & 1,
             clusters: (bytes.len() as u64).div_ceil(1 << cluster_bits.min(21)),
         }
     }
@@ -141,5 +149,14 @@ impl Fields {
         l2_offset >= self.cluster_size()
             && (l2_offset >= l1_end
                 || l2_offset.saturating_add(self.cluster_size()) <= self.l1_offset)
+    }
+}
+
+// The compression type of a header of version 3: zlib where the header ends before it.
+fn compression_type(bytes: &[u8]) -> u64 {
+    if u32_at(bytes, 100) > 104 {
+        u64_at(bytes, 104) >> 56
+    } else {
+        0
     }
 }

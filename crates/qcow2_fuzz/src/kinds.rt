@@ -25,6 +25,9 @@ pub(crate) const LAST_OF_HEADER: u32 = 17;
 /// The number of the storage fault.
 pub(crate) const STORAGE: u32 = 34;
 
+/// The incompatible feature of a compression type other than zlib.
+pub(crate) const COMPRESSION_TYPE: u64 = 1 << 3;
+
 impl Kind {
     /// Whether the command may change its image.
     pub(crate) fn changes(self) -> bool {
@@ -34,6 +37,15 @@ impl Kind {
     /// Whether the command reads the header.
     pub(crate) fn reads_header(self) -> bool {
         self != Kind::L2
+    }
+
+    /// The incompatible features that the command accepts besides an external data file.
+    pub(crate) fn accepted_features(self) -> u64 {
+        match self {
+            Kind::Map | Kind::Tables | Kind::Layout | Kind::Refcount | Kind::Check => 0xb,
+            Kind::Repair | Kind::Plan | Kind::Apply => COMPRESSION_TYPE,
+            _ => 0,
+        }
     }
 
     /// Whether the command may print lines before a fault that isn't of the storage.

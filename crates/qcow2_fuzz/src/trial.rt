@@ -1,7 +1,7 @@
 //! An image that commands run on, and what must hold after each run.
 
 use crate::fields::Fields;
-use crate::kinds::{Kind, LAST_OF_HEADER, STORAGE};
+use crate::kinds::{COMPRESSION_TYPE, Kind, LAST_OF_HEADER, STORAGE};
 use crate::storage::BoundedStorage;
 use qcow2_base::{Fault, MemStorage};
 use qcow2_session::Verdict;
@@ -154,7 +154,8 @@ impl<'a> Trial<'a> {
         Ok(())
     }
 
-    // Reports a command that finds another fault of the header than `info`.
+    // Reports a command that finds another fault of the header than `info`, but for the features that it
+    // accepts and `info` refuses.
     fn check_header(&mut self, kind: Kind, line: &str, answer: &Answer) -> Result<(), Fault> {
         if !kind.reads_header() || kind == Kind::Info {
             return Ok(());
@@ -163,12 +164,27 @@ impl<'a> Trial<'a> {
             Err(fault) if fault.number() <= LAST_OF_HEADER => Some(*fault),
             _ => None,
         };
-        if found != self.header_fault {
-            let expected = format!(in self.alloc; "{:?} of the header", self.header_fault)?;
+        let header_fault = self.header_fault_for(kind.accepted_features());
+        if found != header_fault {
+            let expected = format!(in self.alloc; "{header_fault:?} of the header")?;
             let found = format!(in self.alloc; "{found:?}")?;
             self.wrong(line, expected.as_str(), found.as_str());
         }
         Ok(())
+    }
+
+    // The fault of the header for a command that accepts these features.
+    fn header_fault_for(&self, accepted: u64) -> Option<Fault> {
+        let features = match self.header_fault {
+            None => 0,
+            Some(Fault::Incompatible(features)) => features,
+            other => return other,
+        };
+        if features & !accepted != 0 {
+            return Some(Fault::Incompatible(features & !accepted));
+        }
+        let is_denied = accepted & COMPRESSION_TYPE != 0 && !self.fields.agrees_on_compression;
+        is_denied.then_some(Fault::Incompatible(COMPRESSION_TYPE))
     }
 
     // Reports bytes that have changed though they mustn't: by a command that only reads, or before a

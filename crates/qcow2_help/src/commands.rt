@@ -141,6 +141,8 @@ prints a line for each error, and last `consistent`, or how many clusters and fl
   shared FIRST COUNT COUNTER USES   the header, a table or a refcount block is there, and something else too
   false PLACE CLUSTER COUNTER       an entry's copied flag is set, and the refcount isn't 1
   late PLACE CLUSTER COUNTER        the flag isn't set, and the refcount is 1, or `none` in external data
+  dirty                             the image is marked dirty: a program stopped before it wrote all refcounts
+  corrupt                           it is marked corrupt: a program found damage
   short-l1 ENTRIES NEEDED           the L1 table is too short for the disk: the header is damaged
 
 PLACE is `l1 INDEX`, or the guest offset of an L2 entry. With `json` it prints numbers, as `qemu-img check

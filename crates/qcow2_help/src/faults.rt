@@ -104,9 +104,10 @@ Restore the first cluster from a copy of the same state.
 ";
 
 const INCOMPATIBLE: &str = "\
-fault 17, Incompatible: The only incompatible feature that may be set is an external data file.
-The image was left dirty (bit 0x1) or corrupt (0x2), or has a feature that `qmeta` doesn't read, such as
-zstd compression (0x8) or subclusters (0x10).
+fault 17, Incompatible: Each incompatible feature of the image must be one that the command accepts.
+The image was left dirty (bit 0x1) or corrupt (0x2), which only `map`, `tables`, `layout`, `refcount` and
+`check` accept; has zstd compression (0x8), which `info`, `list`, `at`, `edit` and `count` refuse; or has a
+feature that `qmeta` doesn't read, such as subclusters (0x10).
 Run `qemu-img check -r all` on a dirty or corrupt image; copy any other, without its snapshots, by
 `qemu-img convert -O qcow2 IMAGE NEW`, with `-B NAME -F FORMAT` if it has a backing file.
 ";

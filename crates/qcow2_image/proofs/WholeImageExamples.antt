@@ -5,14 +5,14 @@ use Rattle.qcow2_base.specs.declared.fault.Fault.{Fault}
 use Rattle.qcow2_metadata.specs.Entries.L2Mapping.{Mapping, backing, data_file}
 use Rattle.qcow2_metadata.specs.Header.{geometry}
 use Rattle.qcow2_metadata.specs.Header.Chain.{extensions_at}
-use Rattle.qcow2_metadata.specs.Header.Grammar.{header_of}
+use Rattle.qcow2_metadata.specs.Header.Grammar.{accepted_header, header_of}
 use Rattle.qcow2_summary.proofs.SampleImage.{Part, byte, entry, laid, sample}
 use Rattle.qcow2_image.specs.Lookups.{image_mapping}
 use Rattle.qcow2_image.specs.WholeImage.{image_references}
 
 -- `unfolding computing` opens what is needed to compute what an image that is written out means
 unfoldable computing : ⊤
-unfolding header_of extensions_at be
+unfolding accepted_header extensions_at be
 computing = tt
 
 -- references to clusters 5, 6 and 7 in the whole image. A second L2 table at 2048 maps its first cluster to cluster 7.

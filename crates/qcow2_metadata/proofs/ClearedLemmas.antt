@@ -2,13 +2,14 @@ use Rattle.std.proofs.Common.{◌≡◌, ℕ, ◌+◌, ◌<◌, List, Option, No
 use Rattle.qcow2_base.proofs.OnDiskStructLemmas.{HoldsLayout-moved}
 use Rattle.qcow2_base.specs.OnDiskStruct.{HoldsLayout, fields_moved_by, v2_header, v3_header_base}
 use Rattle.qcow2_base.specs.Storage.{Image, SameOutside, be}
-use Rattle.qcow2_metadata.specs.Header.{HeaderRecord}
-use Rattle.qcow2_metadata.specs.Header.Grammar.{IsBackingName, IsHeader, header_of}
+use Rattle.qcow2_metadata.specs.Header.{HeaderRecord, no_feature}
+use Rattle.qcow2_metadata.specs.Header.Grammar.{IsAcceptedHeader, IsBackingName, accepted_header, header_of}
 use Rattle.qcow2_metadata.specs.Header.Open.{without_autoclear}
 use Rattle.qcow2_metadata.specs.Header.Pointers.{HasNameElsewhere}
 use Rattle.qcow2_metadata.specs.Range.{bytes_at}
+use Rattle.qcow2_metadata.specs.declared.header.features.AcceptedFeatures.{AcceptedFeatures}
 use Rattle.qcow2_metadata.proofs.ChainLemmas.{extensions_at-says, says-extensions_at}
-use Rattle.qcow2_metadata.proofs.GrammarLemmas.{header_of-is, is-header_of}
+use Rattle.qcow2_metadata.proofs.GrammarLemmas.{accepted_header-is, is-accepted_header}
 use Rattle.qcow2_metadata.proofs.LawsLemmas.{AgreeBetween, be-same, bytes_at-same, extensions_at-same}
 
 -- images that agree outside the field of autoclear features agree before it and after it
@@ -38,9 +39,10 @@ name-kept header image other (Some name) same apart (some, short, within, is, te
     ]
 
 -- an image whose field of autoclear features became 0 has the header that it had, without these features
-pub cleared-header : (header : HeaderRecord) (image other : Image) → header_of image ≡ Ok header → header.v2.version ≡ 3
-    → SameOutside 88 8 image other → be other 88 8 ≡ 0 → HasNameElsewhere header → header_of other ≡ Ok (without_autoclear header)
-cleared-header header image other is three same none apart = is-header_of other (without_autoclear header) (record {
+pub accepted-cleared : (accepted : AcceptedFeatures) (header : HeaderRecord) (image other : Image)
+    → accepted_header accepted image ≡ Ok header → header.v2.version ≡ 3 → SameOutside 88 8 image other → be other 88 8 ≡ 0
+    → HasNameElsewhere header → accepted_header accepted other ≡ Ok (without_autoclear header)
+accepted-cleared accepted header image other is three same none apart = is-accepted_header accepted other (without_autoclear header) (record {
   v2 = HoldsLayout-moved image other 0 88 (v2_header header.v2) early (omega arith) was.v2;
   base = record { version_3 = fields; version_2 = λ two. absurd (omega (arith, three, two)) };
   magic = was.magic;
@@ -62,11 +64,11 @@ cleared-header header image other is three same none apart = is-header_of other 
   };
   one_format = was.one_format;
   one_data_file = was.one_data_file;
-  features = was.features;
+  accepts = record { features = was.accepts.features; compression = was.accepts.compression };
 })
   where
-    was : IsHeader image header
-    was = header_of-is image header is
+    was : IsAcceptedHeader accepted image header
+    was = accepted_header-is accepted image header is
 
     early : (k : ℕ) → k < 88 → image k ≡ other (0 + k)
     early k below = let place : 0 + k ≡ k = omega arith in rw place (sym (same.before k below))
@@ -91,3 +93,8 @@ cleared-header header image other is three same none apart = is-header_of other 
         ),
       ),
     )
+
+-- the same for who accepts none
+pub cleared-header : (header : HeaderRecord) (image other : Image) → header_of image ≡ Ok header → header.v2.version ≡ 3
+    → SameOutside 88 8 image other → be other 88 8 ≡ 0 → HasNameElsewhere header → header_of other ≡ Ok (without_autoclear header)
+cleared-header = accepted-cleared no_feature

@@ -1,4 +1,4 @@
-use Rattle.std.proofs.Common.{◌≡◌, ◌⊎◌, ℕ, zero, suc, ◌-◌, true, nat_eq, List, [], ◌∷◌, Option, None, Result, Ok, refl, sym, ap, ◌∙◌, inl, inr, subst, arith, rules}
+use Rattle.std.proofs.Common.{◌≡◌, ◌⊎◌, ℕ, zero, suc, ◌-◌, Bool, true, false, not, ◌||◌, ◌==◌, nat_eq, List, [], ◌∷◌, Option, None, Result, Ok, refl, sym, ap, ◌∙◌, inl, inr, subst, arith, rules}
 use Rattle.std.specs.Cmp.Lexicographic.{pointwise}
 use Rattle.std.specs.List.{IsAmong, list_all}
 use Rattle.std.specs.Str.{IsUtf8}
@@ -11,11 +11,13 @@ use Rattle.qcow2_base.specs.declared.fault.Fault.{Fault}
 use Rattle.qcow2_base.specs.declared.on_disk_struct.v2_header.V2Header.{V2Header}
 use Rattle.qcow2_base.specs.declared.on_disk_struct.v3_header_base.V3HeaderBase.{V3HeaderBase}
 use Rattle.qcow2_metadata.specs.Results.{and_then, after_conditions}
-use Rattle.qcow2_metadata.specs.Header.{HeaderRecord, names_by, all_same, other_features}
+use Rattle.qcow2_metadata.specs.Header.{Accepts, HeaderRecord, all_same, compression_type, each_feature, has_feature, is_compression, names_by, no_feature, other_features}
 use Rattle.qcow2_metadata.specs.Header.Extensions.{Extension, name_in, text}
-use Rattle.qcow2_metadata.specs.Header.Grammar.{AreSame, HasExtensions, IsBackingName, IsBase, IsHeader, backing_name, base_at, field_conditions, fixed_parts, header_extensions, header_of, header_with_parts, last_conditions, v2_at, version_conditions}
+use Rattle.qcow2_metadata.specs.Header.Grammar.{AreSame, HasExtensions, IsAcceptedHeader, IsBackingName, IsBase, IsHeader, accepted_header, backing_name, base_at, field_conditions, fixed_parts, header_extensions, header_of, header_with_parts, last_conditions, v2_at, version_conditions}
 use Rattle.qcow2_metadata.specs.Range.{bytes_at}
 use Rattle.qcow2_metadata.specs.declared.header.extensions.HeaderExtensionType.TheVariants as kind
+use Rattle.qcow2_metadata.specs.declared.header.features.AcceptedFeatures.{AcceptedFeatures}
+use Rattle.qcow2_metadata.specs.declared.header.features.IncompatibleFeatures.TheVariants.{CompressionType}
 use Rattle.qcow2_metadata.proofs.ChainLemmas.{extensions_at-says, says-extensions_at}
 
 -- the two results of which one came
@@ -147,43 +149,112 @@ header_from image parts name extensions = record {
 }
 
 -- the header after its extensions were read, and after the backing file's name
-abbrev pub after_extensions : Image → V2Header × V3HeaderBase → Option (List ℕ) → List Extension
+abbrev pub after_extensions : AcceptedFeatures → Image → V2Header × V3HeaderBase → Option (List ℕ) → List Extension
     → Result HeaderRecord Fault
-after_extensions image parts name extensions =
-    after_conditions (last_conditions parts.1 extensions) (λ _. Ok (header_from image parts name extensions))
+after_extensions accepted image parts name extensions =
+    after_conditions (last_conditions accepted parts.1 (bytes_at image 104 (parts.1.header_length - 104)) extensions)
+    (λ _. Ok (header_from image parts name extensions))
 
-abbrev pub after_name : Image → V2Header × V3HeaderBase → Option (List ℕ) → Result HeaderRecord Fault
-after_name image parts name =
-    and_then (header_extensions image parts.0 parts.1) (after_extensions image parts name)
+abbrev pub after_name : AcceptedFeatures → Image → V2Header × V3HeaderBase → Option (List ℕ) → Result HeaderRecord Fault
+after_name accepted image parts name =
+    and_then (header_extensions image parts.0 parts.1) (after_extensions accepted image parts name)
 
 -- the conditions on all extensions hold where something came of them
-pub record HoldLast (base : V3HeaderBase) (extensions : List Extension) : Type 0 where
+record Tested (accepted : AcceptedFeatures) (base : V3HeaderBase) (fields : List ℕ) (extensions : List Extension) : Type 0 where
   pub one_format : all_same (names_by (name_in kind.BackingFileFormat) extensions) ≡ true
   pub one_data_file : all_same (names_by (name_in kind.ExternalDataFileName) extensions) ≡ true
-  pub features : other_features base ≡ 0
+  pub features : other_features accepted base ≡ 0
+  pub compression : (not accepted.compression_type || is_compression base fields) ≡ true
 
-pub last-hold : {T : Type 0} (base : V3HeaderBase) (extensions : List Extension) (x y : T)
-    → after_conditions (last_conditions base extensions) (λ _. Ok x) ≡ Ok y → HoldLast base extensions × (x ≡ y)
-last-hold base extensions x y is = grind (arith, nat_tests)
+pub record HoldLast (accepted : AcceptedFeatures) (base : V3HeaderBase) (fields : List ℕ) (extensions : List Extension) : Type 0 where
+  pub one_format : all_same (names_by (name_in kind.BackingFileFormat) extensions) ≡ true
+  pub one_data_file : all_same (names_by (name_in kind.ExternalDataFileName) extensions) ≡ true
+  pub accepts : Accepts accepted base fields
 
-hold-last : {T : Type 0} (base : V3HeaderBase) (extensions : List Extension) (x : T)
-    → HoldLast base extensions → after_conditions (last_conditions base extensions) (λ _. Ok x) ≡ Ok x
-hold-last base extensions x hold = grind (arith, nat_tests)
+-- what the condition on a compression type says of who accepts one
+accepts-compression : (is_accepted there : Bool) → (not is_accepted || there) ≡ true → is_accepted ≡ true → there ≡ true
+accepts-compression is_accepted there is taken = grind (arith, nat_tests)
+
+compression-accepted : (is_accepted there : Bool) → (is_accepted ≡ true → there ≡ true) → (not is_accepted || there) ≡ true
+compression-accepted true there is = is refl
+compression-accepted false there is = refl
+
+-- four conditions hold where something came of them
+four-hold : {T : Type 0} (a b c d : Bool) (p q r s : Fault) (x y : T)
+    → after_conditions ((a, p) ∷ (b, q) ∷ (c, r) ∷ (d, s) ∷ []) (λ _. Ok x) ≡ Ok y
+    → (a ≡ true) × (b ≡ true) × (c ≡ true) × (d ≡ true) × (x ≡ y)
+four-hold a b c d p q r s x y is = grind (arith, nat_tests)
+
+is-zero : (n : ℕ) → (n == 0) ≡ true → n ≡ 0
+is-zero n is = grind (arith, nat_tests)
+
+tested-last : {T : Type 0} (accepted : AcceptedFeatures) (base : V3HeaderBase) (fields : List ℕ) (extensions : List Extension) (x y : T)
+    → after_conditions (last_conditions accepted base fields extensions) (λ _. Ok x) ≡ Ok y
+    → Tested accepted base fields extensions × (x ≡ y)
+tested-last accepted base fields extensions x y is =
+    let hold = four-hold
+    (all_same (names_by (name_in kind.BackingFileFormat) extensions))
+    (all_same (names_by (name_in kind.ExternalDataFileName) extensions))
+    (other_features accepted base == 0) (not accepted.compression_type || is_compression base fields) _ _ _ _ x y is in (
+      record {
+        one_format = hold.0;
+        one_data_file = hold.1;
+        features = is-zero (other_features accepted base) hold.2;
+        compression = hold.3;
+      },
+      hold.4,
+    )
+
+last-tested : {T : Type 0} (accepted : AcceptedFeatures) (base : V3HeaderBase) (fields : List ℕ) (extensions : List Extension) (x : T)
+    → Tested accepted base fields extensions → after_conditions (last_conditions accepted base fields extensions) (λ _. Ok x) ≡ Ok x
+last-tested accepted base fields extensions x hold = grind (arith, nat_tests)
+
+pub last-hold : {T : Type 0} (accepted : AcceptedFeatures) (base : V3HeaderBase) (fields : List ℕ) (extensions : List Extension) (x y : T)
+    → after_conditions (last_conditions accepted base fields extensions) (λ _. Ok x) ≡ Ok y
+    → HoldLast accepted base fields extensions × (x ≡ y)
+last-hold accepted base fields extensions x y is =
+    let found = tested-last accepted base fields extensions x y is in
+    let hold = found.0 in (
+      record {
+        one_format = hold.one_format;
+        one_data_file = hold.one_data_file;
+        accepts = record {
+          features = hold.features;
+          compression = accepts-compression accepted.compression_type (is_compression base fields) hold.compression;
+        };
+      },
+      found.1,
+    )
+
+hold-last : {T : Type 0} (accepted : AcceptedFeatures) (base : V3HeaderBase) (fields : List ℕ) (extensions : List Extension) (x : T)
+    → HoldLast accepted base fields extensions → after_conditions (last_conditions accepted base fields extensions) (λ _. Ok x) ≡ Ok x
+hold-last accepted base fields extensions x hold = last-tested accepted base fields extensions x (record {
+  one_format = hold.one_format;
+  one_data_file = hold.one_data_file;
+  features = hold.accepts.features;
+  compression = compression-accepted accepted.compression_type (is_compression base fields) hold.accepts.compression;
+})
+
+-- no features are left over by who accepts each, where none are by who accepts fewer
+pub each-accepts : (accepted : AcceptedFeatures) (base : V3HeaderBase) → other_features accepted base ≡ 0
+    → other_features each_feature base ≡ 0
+each-accepts accepted base is = grind (arith, nat_tests)
 
 -- the header that is read is the image's
-pub header_of-is : (image : Image) (header : HeaderRecord) → header_of image ≡ Ok header
-    → IsHeader image header
-unfolding header_of
-header_of-is image header is =
-    let fixed = and_then-ok (fixed_parts image) (header_with_parts image) header is in
+pub accepted_header-is : (accepted : AcceptedFeatures) (image : Image) (header : HeaderRecord)
+    → accepted_header accepted image ≡ Ok header → IsAcceptedHeader accepted image header
+unfolding accepted_header
+accepted_header-is accepted image header is =
+    let fixed = and_then-ok (fixed_parts image) (header_with_parts accepted image) header is in
     let parts = fixed.0 in
-    let named = and_then-ok (backing_name image parts.0) (after_name image parts) header fixed.2 in
+    let named = and_then-ok (backing_name image parts.0) (after_name accepted image parts) header fixed.2 in
     let found = and_then-ok (header_extensions image parts.0 parts.1)
-    (after_extensions image parts named.0) header named.2 in
-    let last = last-hold parts.1 found.0 (header_from image parts named.0 found.0) header found.2 in
+    (after_extensions accepted image parts named.0) header named.2 in
+    let unknown_header_fields = bytes_at image 104 (parts.1.header_length - 104) in
+    let last = last-hold accepted parts.1 unknown_header_fields found.0 (header_from image parts named.0 found.0) header found.2 in
     let are = fixed_parts-are image parts fixed.1 in
     let valid = are.2 in
-    subst (IsHeader image) last.1 (record {
+    subst (IsAcceptedHeader accepted image) last.1 (record {
       v2 = subst (λ (h : V2Header). HoldsLayout image (v2_header h)) are.0 assumption;
       base = subst (IsBase image parts.0.version) are.1 (base_at-IsBase image parts.0.version);
       magic = grind (arith, nat_tests, valid);
@@ -199,12 +270,68 @@ header_of-is image header is =
       extensions = header_extensions-has image parts.0 parts.1 found.0 found.1;
       one_format = all_same-AreSame _ last.0.one_format;
       one_data_file = all_same-AreSame _ last.0.one_data_file;
-      features = last.0.features;
+      accepts = last.0.accepts;
     })
 
+pub header_of-is : (image : Image) (header : HeaderRecord) → header_of image ≡ Ok header → IsHeader image header
+header_of-is = accepted_header-is no_feature
+
+-- the fixed parts of an image's header are read
+fixed-is : (accepted : AcceptedFeatures) (image : Image) (header : HeaderRecord) → IsAcceptedHeader accepted image header
+    → fixed_parts image ≡ Ok (header.v2, header.base)
+fixed-is accepted image header is =
+    grind (arith, nat_tests, IsBase-base_at, fixed_parts-by, holds-v2_at)
+
 -- the image's header is read
-pub is-header_of : (image : Image) (header : HeaderRecord) → IsHeader image header
-    → header_of image ≡ Ok header
-unfolding header_of
-is-header_of image header is =
-    grind (arith, nat_tests, IsBase-base_at, fixed_parts-by, holds-v2_at, is-backing_name, has-header_extensions, AreSame-all_same, hold-last)
+pub is-accepted_header : (accepted : AcceptedFeatures) (image : Image) (header : HeaderRecord)
+    → IsAcceptedHeader accepted image header → accepted_header accepted image ≡ Ok header
+unfolding accepted_header
+is-accepted_header accepted image header is =
+    let fixed = fixed-is accepted image header is in
+    let named = is-backing_name image header.v2 header.backing_filename is.backing_filename in
+    let extended = has-header_extensions image header.v2 header.base header.extensions is.version is.extensions in
+    let hold : HoldLast accepted header.base header.unknown_header_fields header.extensions = record {
+      one_format = AreSame-all_same _ is.one_format;
+      one_data_file = AreSame-all_same _ is.one_data_file;
+      accepts = is.accepts;
+    } in
+    let last = hold-last accepted header.base header.unknown_header_fields header.extensions header hold in
+    rw (fixed, named, extended, sym is.unknown_header_fields) last
+
+-- who accepts no feature reads a header that has none
+no-more : (accepted : AcceptedFeatures) (base : V3HeaderBase) → other_features no_feature base ≡ 0 → other_features accepted base ≡ 0
+no-more accepted base is = grind (arith, nat_tests)
+
+without-compression : (base : V3HeaderBase) → other_features no_feature base ≡ 0 → has_feature CompressionType base ≡ false
+without-compression base is = grind (arith, nat_tests)
+
+-- so who accepts some does, where it has the default compression
+pub plain-accepted : (accepted : AcceptedFeatures) (image : Image) (header : HeaderRecord) → header_of image ≡ Ok header
+    → compression_type header.unknown_header_fields ≡ 0 → accepted_header accepted image ≡ Ok header
+plain-accepted accepted image header is plain =
+    let was = header_of-is image header is in
+    let none = without-compression header.base was.accepts.features in
+    is-accepted_header accepted image header (record {
+      v2 = was.v2;
+      base = was.base;
+      magic = was.magic;
+      version = was.version;
+      cluster_bits = was.cluster_bits;
+      header_not_short = was.header_not_short;
+      header_not_big = was.header_not_big;
+      l1_table_aligned = was.l1_table_aligned;
+      reftable_aligned = was.reftable_aligned;
+      refcount_width = was.refcount_width;
+      unknown_header_fields = was.unknown_header_fields;
+      backing_filename = was.backing_filename;
+      extensions = was.extensions;
+      one_format = was.one_format;
+      one_data_file = was.one_data_file;
+      accepts = record {
+        features = no-more accepted header.base was.accepts.features;
+        compression = λ _. rw (plain, none) refl;
+      };
+    })
+
+pub is-header_of : (image : Image) (header : HeaderRecord) → IsHeader image header → header_of image ≡ Ok header
+is-header_of = is-accepted_header no_feature

@@ -8,10 +8,11 @@ use Rattle.qcow2_base.proofs.StorageLemmas.{be_of_same}
 use Rattle.qcow2_base.specs.declared.fault.Fault.{Fault}
 use Rattle.qcow2_base.specs.declared.on_disk_struct.v2_header.V2Header.{V2Header}
 use Rattle.qcow2_base.specs.declared.on_disk_struct.v3_header_base.V3HeaderBase.{V3HeaderBase}
-use Rattle.qcow2_metadata.specs.Header.{HeaderRecord}
+use Rattle.qcow2_metadata.specs.Header.{HeaderRecord, no_feature}
 use Rattle.qcow2_metadata.specs.Header.Chain.{extension_at, extensions_at, few_extensions}
-use Rattle.qcow2_metadata.specs.Header.Grammar.{backing_name, base_at, fixed_parts, header_extensions, header_of, header_with_parts, v2_at}
+use Rattle.qcow2_metadata.specs.Header.Grammar.{accepted_header, backing_name, base_at, fixed_parts, header_extensions, header_of, header_with_parts, v2_at}
 use Rattle.qcow2_metadata.specs.Range.{bytes_at}
+use Rattle.qcow2_metadata.specs.declared.header.features.AcceptedFeatures.{AcceptedFeatures}
 use Rattle.qcow2_metadata.proofs.ChainLemmas.{extension_at-past}
 use Rattle.qcow2_metadata.proofs.GrammarLemmas.{fixed_parts-are, header_of-is, holds-v2_at, parts_by}
 
@@ -85,17 +86,18 @@ header_extensions-same image other v2 base same =
     ]
 
 -- the header of these two parts is the same
-header_with_parts-same : (image other : Image) (parts : V2Header × V3HeaderBase)
+header_with_parts-same : (accepted : AcceptedFeatures) (image other : Image) (parts : V2Header × V3HeaderBase)
     → AgreeBetween 0 (2 ^ parts.0.cluster_bits) image other → parts_by parts.0 parts.1 ≡ Ok parts
-    → header_with_parts other parts ≡ header_with_parts image parts
-header_with_parts-same image other parts same valid =
+    → header_with_parts accepted other parts ≡ header_with_parts accepted image parts
+header_with_parts-same accepted image other parts same valid =
     grind (arith, nat_tests, backing_name-same, header_extensions-same, bytes_at-same)
 
 -- images with the same first cluster have the same header, or the same fault
-pub header_of-same : (image other : Image) → ((o : ℕ) → o < max 512 (2 ^ be image 20 4) → other o ≡ image o)
-    → header_of other ≡ header_of image
-unfolding header_of
-header_of-same image other same = by_parts (fixed_parts image) refl
+pub accepted_header-same : (accepted : AcceptedFeatures) (image other : Image)
+    → ((o : ℕ) → o < max 512 (2 ^ be image 20 4) → other o ≡ image o)
+    → accepted_header accepted other ≡ accepted_header accepted image
+unfolding accepted_header
+accepted_header-same accepted image other same = by_parts (fixed_parts image) refl
   where
     first : AgreeBetween 0 512 image other
     first = record { each = λ o after below. same o (omega arith) }
@@ -106,13 +108,13 @@ header_of-same image other same = by_parts (fixed_parts image) refl
         parts_by v2 (base_at-same 512 image other first (omega arith) v2.version i)
 
     by_parts : (answer : Result (V2Header × V3HeaderBase) Fault) → fixed_parts image ≡ answer
-        → header_of other ≡ header_of image
+        → accepted_header accepted other ≡ accepted_header accepted image
     by_parts (Err fault) is = rw (fixed ∙ is, is) refl
     by_parts (Ok parts) is =
         let are = fixed_parts-are image parts is in
         let size = ap (λ (v2 : V2Header). 2 ^ v2.cluster_bits) are.0 in
         rw (fixed ∙ is, is)
-        (header_with_parts-same image other parts (record { each = λ o after below. same o (omega (arith, size)) }) are.2)
+        (header_with_parts-same accepted image other parts (record { each = λ o after below. same o (omega (arith, size)) }) are.2)
 
 -- so an image whose first cluster is kept has the same header
 pub first-cluster-kept : (header : HeaderRecord) (old new : Image) → header_of old ≡ Ok header
@@ -122,4 +124,4 @@ first-cluster-kept header old new is kept =
     let size : 2 ^ be old 20 4 ≡ 2 ^ header.v2.cluster_bits =
     ap (λ (v2 : V2Header). 2 ^ v2.cluster_bits) (holds-v2_at old header.v2 was.v2) in
     let least : 2 ^ 9 ≤ 2 ^ header.v2.cluster_bits = pow-le-pow_right (lit< tt) was.cluster_bits.0 in
-    header_of-same old new (λ o below. kept o (omega (arith, below, size, least))) ∙ is
+    accepted_header-same no_feature old new (λ o below. kept o (omega (arith, below, size, least))) ∙ is

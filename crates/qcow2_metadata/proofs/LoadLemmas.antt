@@ -1,8 +1,9 @@
-use Rattle.std.proofs.Common.{◌≡◌, ◌≢◌, ◌⊎◌, ◌==◌, ℕ, ◌+◌, ◌≤◌, Bool, false, List, [], ◌∷◌, ◌++◌, length, Option, Some, None, Result, Ok, Err, inl, inr, refl, sym, ap, ◌∙◌, add-zero, append_assoc, arith}
+use Rattle.std.proofs.Common.{◌≡◌, ◌≢◌, ◌⊎◌, ◌==◌, ℕ, ◌+◌, ◌-◌, ◌≤◌, Bool, false, List, [], ◌∷◌, ◌++◌, length, Option, Some, None, Result, Ok, Err, inl, inr, refl, sym, ap, ◌∙◌, add-zero, append_assoc, arith}
 use Rattle.std.proofs.lemmas.Bool.Decides.{nat_tests}
 use Rattle.qcow2_base.specs.OnDiskStruct.{HoldsLayout, LayoutField, header_extension_header, layout_end, fields_moved_by, v2_header, v3_header_base}
 use Rattle.qcow2_base.specs.Storage.{Holds, Image, be, image_of}
 use Rattle.qcow2_base.specs.declared.fault.Fault.{Fault}
+use Rattle.qcow2_base.specs.declared.fault.Fault.TheVariants.{NoMemory, Storage}
 use Rattle.qcow2_base.specs.declared.on_disk_struct.header_extension_header.HeaderExtensionHeader.{HeaderExtensionHeader}
 use Rattle.qcow2_base.specs.declared.on_disk_struct.v2_header.V2Header.{V2Header}
 use Rattle.qcow2_base.specs.declared.on_disk_struct.v3_header_base.V3HeaderBase.{V3HeaderBase}
@@ -11,10 +12,12 @@ use Rattle.std.proofs.lemmas.List.{take_at}
 use Rattle.qcow2_metadata.proofs.RangeLemmas.{held-bytes_at}
 use Rattle.qcow2_metadata.proofs.ChainLemmas.{extensions_at-unfold}
 use Rattle.qcow2_metadata.proofs.GrammarLemmas.{IsBase-base_at, fixed_parts-by, header_from, holds-v2_at, parts_by}
-use Rattle.qcow2_metadata.specs.Results.{after_conditions, result_map}
+use Rattle.qcow2_metadata.specs.Results.{after_conditions, and_then, result_map}
 use Rattle.qcow2_metadata.specs.Header.Chain.{extension_at, extensions_at}
 use Rattle.qcow2_metadata.specs.Header.Extensions.{Extension}
 use Rattle.qcow2_metadata.specs.Header.Grammar.{IsBase, backing_name, base_at, field_conditions, fixed_parts, header_extensions, header_with_parts, last_conditions, v2_at, version_conditions}
+use Rattle.qcow2_metadata.specs.Range.{bytes_at}
+use Rattle.qcow2_metadata.specs.declared.header.features.AcceptedFeatures.{AcceptedFeatures}
 
 -- bytes that were read
 pub ruleset bytes_read = (held-bytes_at, take_at)
@@ -122,10 +125,17 @@ pub extensions_at-fault : (image : Image) (len place : ℕ) (fault : Fault) → 
     → extensions_at image len place ≡ Err fault
 extensions_at-fault image len place fault is = extensions_at-unfold image len place ∙ rw is refl
 
+-- the fault of the first result is that of both
+pub first-fault : {A B : Type 0} (first : Result A Fault) (next : A → Result B Fault) (fault : Fault)
+    → ((fault ≡ Storage) ⊎ (fault ≡ NoMemory) ⊎ (first ≡ Err fault))
+    → ((fault ≡ Storage) ⊎ (fault ≡ NoMemory) ⊎ (and_then first next ≡ Err fault))
+first-fault first next fault why = grind (arith, nat_tests)
+
 -- after all parts their last conditions decide what comes
-pub header-last : (image : Image) (v2 : V2Header) (base : V3HeaderBase) (name : Option (List ℕ))
+pub header-last : (accepted : AcceptedFeatures) (image : Image) (v2 : V2Header) (base : V3HeaderBase) (name : Option (List ℕ))
     (extensions : List Extension)
     → backing_name image v2 ≡ Ok name → header_extensions image v2 base ≡ Ok extensions
-    → header_with_parts image (v2, base)
-    ≡ after_conditions (last_conditions base extensions) (λ _. Ok (header_from image (v2, base) name extensions))
-header-last image v2 base name extensions named extended = rw (named, extended) refl
+    → header_with_parts accepted image (v2, base)
+    ≡ after_conditions (last_conditions accepted base (bytes_at image 104 (base.header_length - 104)) extensions)
+    (λ _. Ok (header_from image (v2, base) name extensions))
+header-last accepted image v2 base name extensions named extended = rw (named, extended) refl

@@ -6,9 +6,10 @@ use Rattle.qcow2_base.specs.declared.fault.Fault.{Fault}
 use Rattle.qcow2_base.specs.declared.fault.Fault.TheVariants.{HeaderTooLong, NameTooLong, NoMemory, Storage}
 use Rattle.qcow2_metadata.specs.Results.{Answers, IsFromOutside, RefusesFirst}
 use Rattle.qcow2_metadata.specs.Header.{HeaderRecord}
-use Rattle.qcow2_metadata.specs.Header.Grammar.{IsHeaderFault, header_of}
+use Rattle.qcow2_metadata.specs.Header.Grammar.{IsHeaderFault, accepted_header}
 use Rattle.qcow2_metadata.specs.Header.Open.{IsWritableFault, header_after_load}
 use Rattle.qcow2_metadata.specs.Header.Text.{is_short, header_after_write}
+use Rattle.qcow2_metadata.specs.declared.header.features.AcceptedFeatures.{AcceptedFeatures}
 
 -- why a header whose name isn't too long isn't written
 kept-too_long : (header : HeaderRecord) (fault : Fault) → is_short header.backing_filename ≡ true
@@ -44,7 +45,7 @@ pub opened-faults : (answer : Result HeaderRecord Fault) (header : HeaderRecord)
 opened-faults answer header writable is short answers = grind (arith, nat_tests, opened-too_long)
 
 -- the fault of an image's header is that of its load
-pub opened_fault : (writable : Bool) (image : Image) (fault : Fault)
-    → ((fault ≡ Storage) ⊎ (fault ≡ NoMemory) ⊎ (header_of image ≡ Err fault))
-    → ((fault ≡ Storage) ⊎ (fault ≡ NoMemory) ⊎ (header_after_load writable (header_of image) ≡ Err fault))
-opened_fault writable image fault why = grind (arith, nat_tests)
+pub opened_fault : (accepted : AcceptedFeatures) (writable : Bool) (image : Image) (fault : Fault)
+    → ((fault ≡ Storage) ⊎ (fault ≡ NoMemory) ⊎ (accepted_header accepted image ≡ Err fault))
+    → ((fault ≡ Storage) ⊎ (fault ≡ NoMemory) ⊎ (header_after_load writable (accepted_header accepted image) ≡ Err fault))
+opened_fault accepted writable image fault why = grind (arith, nat_tests)

@@ -14,14 +14,15 @@ use Rattle.qcow2_base.proofs.StorageLemmas.{be_determines, be_fits, be_of_same}
 use Rattle.qcow2_base.specs.declared.on_disk_struct.header_extension_header.HeaderExtensionHeader.{HeaderExtensionHeader}
 use Rattle.qcow2_base.specs.declared.on_disk_struct.v3_header_base.V3HeaderBase.{V3HeaderBase}
 use Rattle.qcow2_base.proofs.OnDiskStructLemmas.{be_of_bytes}
-use Rattle.qcow2_metadata.specs.Header.{HeaderRecord, IsValidHeader, names_by}
+use Rattle.qcow2_metadata.specs.Header.{Accepts, HeaderRecord, IsValidHeader, compression_type, is_compression, names_by}
 use Rattle.qcow2_metadata.specs.Header.Chain.{SaysExtensions, link_at}
 use Rattle.qcow2_metadata.specs.Header.Extensions.{Extension, data_of, name_in, normal_extension, type_number}
-use Rattle.qcow2_metadata.specs.Header.Grammar.{AreSame, HasExtensions, IsBackingName, IsBase, IsHeader}
+use Rattle.qcow2_metadata.specs.Header.Grammar.{AreSame, HasExtensions, IsAcceptedHeader, IsBackingName, IsBase}
 use Rattle.qcow2_metadata.specs.Header.Text.{AreFitting, extension_text, extensions_text, fields_text, header_end, header_text, is_short, name_place, header_after_write, header_read_back, padded_bytes, parts_text, header_with_places, placed_base, placed_v2}
 use Rattle.qcow2_metadata.specs.Range.{bytes_at}
 use Rattle.qcow2_metadata.specs.declared.header.extensions.HeaderExtensionType.{HeaderExtensionType}
 use Rattle.qcow2_metadata.specs.declared.header.extensions.HeaderExtensionType.TheVariants as kind
+use Rattle.qcow2_metadata.specs.declared.header.features.AcceptedFeatures.{AcceptedFeatures}
 use Rattle.qcow2_metadata.proofs.GrammarLemmas.{all_same-AreSame}
 use Rattle.qcow2_metadata.proofs.ExtensionsLemmas.{ReadsBack}
 use Rattle.qcow2_metadata.proofs.ChainLemmas.{IsEnd, IsFirst, says_more, says_none}
@@ -375,12 +376,26 @@ held-extensions : (image : Image) (header : HeaderRecord) → IsValidHeader head
 held-extensions image header valid is pieces back =
     grind (arith, nat_tests, newer-parts, placed-length, pow_mono, text-says)
 
+-- padding leaves the byte of the compression type
+padded-first : (bytes : List ℕ) → compression_type (padded_bytes bytes) ≡ compression_type bytes
+padded-first [] = refl
+padded-first (first ∷ bytes) = refl
+
+-- so who accepts a header accepts it as it reads back
+accepts-padded : (accepted : AcceptedFeatures) (base : V3HeaderBase) (fields : List ℕ) → Accepts accepted base fields
+    → Accepts accepted base (padded_bytes fields)
+accepts-padded accepted base fields accepts = record {
+  features = accepts.features;
+  compression = λ taken. rw (padded-first fields) (accepts.compression taken);
+}
+
 -- a header whose text is at the start of an image is the image's, as it reads back
-pub text-header : (image : Image) (header : HeaderRecord) → IsValidHeader header
+pub text-header : (accepted : AcceptedFeatures) (image : Image) (header : HeaderRecord) → IsValidHeader header
     → All ReadsBack header.extensions → AreFitting (v2_header header.v2)
     → AreFitting (v3_header_base header.base) → IfSome header.backing_filename IsUtf8
-    → header_after_write header ≡ Ok header → Holds image 0 (header_text header) → IsHeader image (header_read_back header)
-text-header image header valid back fits_v2 fits_base text same held =
+    → header_after_write header ≡ Ok header → Holds image 0 (header_text header)
+    → Accepts accepted header.base header.unknown_header_fields → IsAcceptedHeader accepted image (header_read_back header)
+text-header accepted image header valid back fits_v2 fits_base text same held accepts =
     let is = kept-placed header same in
     let known = valid.version in
     let pieces = held-pieces image header known held in
@@ -408,5 +423,5 @@ text-header image header valid back fits_v2 fits_base text same held =
       extensions = held-extensions image header valid is pieces back;
       one_format = subst AreSame (sym formats) (all_same-AreSame _ valid.one_format);
       one_data_file = subst AreSame (sym data_files) (all_same-AreSame _ valid.one_data_file);
-      features = valid.features;
+      accepts = accepts-padded accepted header.base header.unknown_header_fields accepts;
     }

@@ -7,13 +7,14 @@ use Rattle.qcow2_base.specs.declared.fault.Fault.{Fault}
 use Rattle.qcow2_base.specs.declared.fault.Fault.TheVariants.{Storage}
 use Rattle.qcow2_base.specs.declared.on_disk_struct.v2_header.V2Header.{V2Header}
 use Rattle.qcow2_base.specs.declared.on_disk_struct.v3_header_base.V3HeaderBase.{V3HeaderBase}
-use Rattle.qcow2_metadata.specs.Header.{HeaderRecord, geometry_of, uncounted_part}
+use Rattle.qcow2_metadata.specs.Header.{Accepts, HeaderRecord, geometry_of, uncounted_part}
 use Rattle.qcow2_metadata.specs.Header.Extensions.{Extension, IsStorable, is_unknown, normal_extension}
-use Rattle.qcow2_metadata.specs.Header.Grammar.{header_of}
+use Rattle.qcow2_metadata.specs.Header.Grammar.{accepted_header}
 use Rattle.qcow2_metadata.specs.Header.Open.{BecomesWritable, SaysSame, header_after_load, is_rewritten, opened_text, without_autoclear}
 use Rattle.qcow2_metadata.specs.Header.Text.{IsWrittenHeader, base_with_length, chosen_extensions, chosen_text, header_after_write, header_end, header_read_back, header_text, header_to_write, header_with_places, is_other, is_short, name_place, v2_with_name}
 use Rattle.qcow2_metadata.specs.Results.{RefusesFirst}
-use Rattle.qcow2_metadata.proofs.GrammarLemmas.{is-header_of}
+use Rattle.qcow2_metadata.specs.declared.header.features.AcceptedFeatures.{AcceptedFeatures}
+use Rattle.qcow2_metadata.proofs.GrammarLemmas.{is-accepted_header}
 use Rattle.qcow2_metadata.proofs.OpenLemmas.{writable-faults}
 use Rattle.qcow2_metadata.proofs.WriteLemmas.{kept-settled}
 
@@ -144,9 +145,10 @@ becomes-err header fault old new rewritten why storage =
     }
 
 -- what such a header reads back as, once it is written
-pub written-read : (image : Image) (written : HeaderRecord) → IsWrittenHeader image written
-    → header_of image ≡ Ok (header_read_back written)
-written-read image written is = is-header_of image (header_read_back written) is.reads_back
+pub written-read : (accepted : AcceptedFeatures) (image : Image) (written : HeaderRecord) → IsWrittenHeader image written
+    → Accepts accepted written.base written.unknown_header_fields → accepted_header accepted image ≡ Ok (header_read_back written)
+written-read accepted image written is accepts =
+    is-accepted_header accepted image (header_read_back written) (is.reads_back accepted accepts)
 
 -- an extension that isn't read here is other than a table of feature names
 unknown-other : (number : ℕ) (extensions : List Extension)

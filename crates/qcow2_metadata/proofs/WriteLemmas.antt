@@ -5,7 +5,7 @@ use Rattle.std.proofs.lemmas.Bool.{cases_Bool}
 use Rattle.std.proofs.lemmas.List.{append-nil, length-append, length-map}
 use Rattle.std.proofs.lemmas.List.Elements.{All-filter, All-weaker}
 use Rattle.qcow2_base.specs.declared.on_disk_struct.v2_header.V2Header.{V2Header}
-use Rattle.qcow2_metadata.specs.Header.{HeaderRecord, IsValidHeader, names_by, other_features}
+use Rattle.qcow2_metadata.specs.Header.{HeaderRecord, IsValidHeader, each_feature, names_by, other_features}
 use Rattle.qcow2_metadata.specs.Header.Extensions.{Extension, IsStorable, data_of, normal_extension, type_number, extension_of, name_in}
 use Rattle.qcow2_metadata.specs.Header.Text.{IsSettled, header_to_write, extension_text, extensions_text, fits_first_cluster, header_end, header_text, is_other, is_short, header_after_write, header_read_back, padded_bytes, parts_text, header_with_places, placed_base, placed_v2, v2_with_name, AreFitting, IsLayout, IsWrittenHeader, base_with_length, chosen_extensions, chosen_text, name_place}
 use Rattle.qcow2_metadata.proofs.FeatureNamesLemmas.{name_chunks_len, normal_extensions-once, normal_named, storable-reads_back}
@@ -21,6 +21,7 @@ use Rattle.qcow2_metadata.proofs.ExtensionsLemmas.{ReadsBack}
 use Rattle.qcow2_metadata.specs.declared.header.extensions.HeaderExtension.{HeaderExtension}
 use Rattle.qcow2_metadata.specs.declared.header.extensions.HeaderExtensionType.{HeaderExtensionType}
 use Rattle.qcow2_metadata.specs.declared.header.extensions.HeaderExtensionType.TheVariants as kind
+use Rattle.qcow2_metadata.specs.declared.header.features.AcceptedFeatures.{AcceptedFeatures}
 
 -- padded bytes need no padding
 pub padded-once : (bytes : List ℕ) → padded_bytes (padded_bytes bytes) ≡ padded_bytes bytes
@@ -184,8 +185,12 @@ chosen-storable false extensions storable = All-filter is_other IsStorable exten
 -- a length changes nothing else that the second part says
 base_with_length-keeps : (version : ℕ) (base : V3HeaderBase) (len : ℕ)
     → ((base_with_length version base len).refcount_order ≡ base.refcount_order)
-    × (other_features (base_with_length version base len) ≡ other_features base)
-base_with_length-keeps version base len = (grind (arith, nat_tests), grind (arith, nat_tests))
+    × ((accepted : AcceptedFeatures) → other_features accepted (base_with_length version base len) ≡ other_features accepted base)
+base_with_length-keeps version base len =
+    let same : (base_with_length version base len).incompatible_features ≡ base.incompatible_features = grind (arith, nat_tests) in (
+      grind (arith, nat_tests),
+      λ accepted. ap (λ features. other_features accepted (record base { incompatible_features = features })) same,
+    )
 
 -- the second part stays in version 2
 older-base : (version : ℕ) (base : V3HeaderBase) (len : ℕ) → version ≡ 2 → base_with_length version base len ≡ base
@@ -210,7 +215,7 @@ placed-valid with_names header valid =
       refcount_order = rw base.0 valid.refcount_order;
       l1_table_aligned = rw (v2.cluster_bits, v2.l1_table_offset) valid.l1_table_aligned;
       reftable_aligned = rw (v2.cluster_bits, v2.refcount_table_offset) valid.reftable_aligned;
-      features = base.1 ∙ valid.features;
+      features = base.1 each_feature ∙ valid.features;
       one_format = rw (chosen-names_by with_names kind.BackingFileFormat header.extensions) valid.one_format;
       one_data_file = rw (chosen-names_by with_names kind.ExternalDataFileName header.extensions) valid.one_data_file;
       backing_filename = valid.backing_filename;
@@ -269,7 +274,7 @@ written-header image header layout valid is written_is v2 base held =
     let text = subst (Holds image 0) (sym (header_text-placed written)) held in
     record {
       text = text;
-      reads_back = text-header image (header_with_places written) after back fits_v2 fits_base after.backing_filename settled.again text;
+      reads_back = λ accepted. text-header accepted image (header_with_places written) after back fits_v2 fits_base after.backing_filename settled.again text;
     }
 
 -- a write that is refused touches nothing

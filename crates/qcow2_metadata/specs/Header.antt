@@ -8,7 +8,7 @@ pub mod Open
 pub mod Pointers
 pub mod Text
 pub mod Update
-use Rattle.std.specs.Prelude.{◌≡◌, ◌⊎◌, All, ℕ, Bool, true, not, nat_eq, nat_le, ◌||◌, ◌==◌, ◌+◌, ◌-◌, ◌*◌, ◌%◌, ◌^◌, ◌≤◌, List, [], ◌∷◌, ◌++◌, map, codes, Option, Some, None, IfSome, is_some, if◌then◌else◌, option_to_list, slice_get}
+use Rattle.std.specs.Prelude.{◌≡◌, ◌⊎◌, All, ℕ, Bool, true, false, not, nat_eq, nat_le, ◌||◌, ◌&&◌, ◌==◌, ◌+◌, ◌-◌, ◌*◌, ◌%◌, ◌^◌, ◌≤◌, List, [], ◌∷◌, ◌++◌, map, codes, Option, Some, None, IfSome, is_some, if◌then◌else◌, option_to_list, slice_get, slice_index}
 use Rattle.std.specs.Cmp.Lexicographic.{pointwise}
 use Rattle.std.specs.List.{list_all, list_any}
 use Rattle.std.specs.Str.{IsUtf8}
@@ -20,8 +20,12 @@ use Rattle.qcow2_base.specs.declared.fault.UncountedPart.TheVariants.{Bitmaps, E
 use Rattle.qcow2_base.specs.declared.on_disk_struct.v2_header.V2Header.{V2Header}
 use Rattle.qcow2_base.specs.declared.on_disk_struct.v3_header_base.V3HeaderBase.{V3HeaderBase}
 use Rattle.qcow2_metadata.specs.Header.Extensions.{Extension, FeatureNameTable, FeatureNames, IsStorable, is_unknown, TextOf, name_in}
+use Rattle.qcow2_metadata.specs.Header.Features.{incompatible_bit}
 use Rattle.qcow2_metadata.specs.declared.header.extensions.HeaderExtensionType.TheVariants as kind
+use Rattle.qcow2_metadata.specs.declared.header.features.AcceptedFeatures.{AcceptedFeatures}
 use Rattle.qcow2_metadata.specs.declared.header.features.FeatureType.TheVariants.{Incompatible, Compatible, Autoclear}
+use Rattle.qcow2_metadata.specs.declared.header.features.IncompatibleFeatures.{IncompatibleFeatures}
+use Rattle.qcow2_metadata.specs.declared.header.features.IncompatibleFeatures.TheVariants.{CompressionType, Corrupt, Dirty, ExternalDataFile}
 
 -- what a header says: the two fixed parts, the bytes between these and the extensions, the backing file's
 -- name, which is text, and the extensions without End. In version 2 there is no second part, and this is as
@@ -65,10 +69,48 @@ all_same (first ∷ names) = list_all (pointwise nat_eq first) names
 abbrev pub uses_external_data : HeaderRecord → Bool
 uses_external_data header = field header.base.incompatible_features external_data_file_bit 1 == 1
 
--- the incompatible features but that one
-abbrev pub other_features : V3HeaderBase → ℕ
-other_features base =
-    base.incompatible_features - 2 ^ external_data_file_bit * field base.incompatible_features external_data_file_bit 1
+-- whether the image has an incompatible feature
+abbrev pub has_feature : IncompatibleFeatures → V3HeaderBase → Bool
+has_feature feature base = field base.incompatible_features (incompatible_bit feature) 1 == 1
+
+-- no feature, and each one that can be accepted
+abbrev pub no_feature : AcceptedFeatures
+no_feature = record { dirty = false; corrupt = false; compression_type = false }
+
+abbrev pub each_feature : AcceptedFeatures
+each_feature = record { dirty = true; corrupt = true; compression_type = true }
+
+-- any compression type, of an image that is neither dirty nor corrupt
+abbrev pub any_compression : AcceptedFeatures
+any_compression = record { dirty = false; corrupt = false; compression_type = true }
+
+-- the bit of a feature where it is accepted and the image has it
+abbrev pub accepted_feature : Bool → IncompatibleFeatures → V3HeaderBase → ℕ
+accepted_feature is_accepted feature base =
+    if is_accepted && has_feature feature base then 2 ^ incompatible_bit feature else 0
+
+-- the incompatible features but the external data file and those that are accepted
+abbrev pub other_features : AcceptedFeatures → V3HeaderBase → ℕ
+other_features accepted base =
+    base.incompatible_features
+    - accepted_feature true ExternalDataFile base
+    - accepted_feature accepted.dirty Dirty base
+    - accepted_feature accepted.corrupt Corrupt base
+    - accepted_feature accepted.compression_type CompressionType base
+
+-- the number of the compression type: the byte at 104, the first of the unknown fields, and 0 where the header ends before it
+abbrev pub compression_type : List ℕ → ℕ
+compression_type unknown_header_fields = slice_index unknown_header_fields 0
+
+-- whether that is a type there is: 1 exactly where the feature says so, else 0
+abbrev pub is_compression : V3HeaderBase → List ℕ → Bool
+is_compression base unknown_header_fields =
+    compression_type unknown_header_fields == (if has_feature CompressionType base then 1 else 0)
+
+-- a header with these parts has no other features than those that are accepted, and a compression type there is
+pub record Accepts (accepted : AcceptedFeatures) (base : V3HeaderBase) (unknown_header_fields : List ℕ) : Type 0 where
+  pub features : other_features accepted base ≡ 0
+  pub compression : accepted.compression_type ≡ true → is_compression base unknown_header_fields ≡ true
 
 -- the kind of encryption that is called LUKS. It keeps its keys in clusters, and later kinds may do so too
 abbrev pub luks_method : ℕ
@@ -136,7 +178,7 @@ pub record IsValidHeader (header : HeaderRecord) : Type 0 where
   pub refcount_order : header.base.refcount_order ≤ 6
   pub l1_table_aligned : header.v2.l1_table_offset % 2 ^ header.v2.cluster_bits ≡ 0
   pub reftable_aligned : header.v2.refcount_table_offset % 2 ^ header.v2.cluster_bits ≡ 0
-  pub features : other_features header.base ≡ 0
+  pub features : other_features each_feature header.base ≡ 0
   pub one_format : all_same (names_by (name_in kind.BackingFileFormat) header.extensions) ≡ true
   pub one_data_file : all_same (names_by (name_in kind.ExternalDataFileName) header.extensions) ≡ true
   pub backing_filename : IfSome header.backing_filename IsUtf8

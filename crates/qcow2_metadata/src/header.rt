@@ -2,6 +2,7 @@
 
 ghost use Rattle.std.specs.Prelude.{◌≡◌, ◌⊎◌, ◌+◌, ◌-◌, ◌^◌, ◌≤◌, IsOkUnless, IfOk, MatchResult, None, map, option_map, string_bytes};
 ghost use Rattle.qcow2_base.specs.Types.{IsClusterBits, IsRefblockBits};
+ghost use Rattle.qcow2_metadata.specs.Header as spec;
 ghost use Rattle.qcow2_metadata.specs.Header.{new_header};
 
 mod backing_filename;
@@ -23,9 +24,10 @@ use extensions::has_unknown;
 pub use extensions::{HeaderExtension, HeaderExtensionType};
 use feature_names::known_names;
 pub use features::{
-    AutoclearFeatures, CompatibleFeatures, FeatureType, IncompatibleFeatures, UnknownValue,
+    AcceptedFeatures, AutoclearFeatures, CompatibleFeatures, FeatureType, IncompatibleFeatures,
+    UnknownValue,
 };
-use names::first_name;
+use names::{compression_type, first_name, has_feature};
 use qcow2_base::{
     ClusterCount, EXTERNAL_DATA_FILE_BIT, Fault, HostOffset, MAGIC, UncountedPart, V2Header,
     V3HeaderBase,
@@ -172,6 +174,24 @@ impl Header {
         ensures { result ≡ uses_external_data self.now }
     {
         self.base.incompatible_features >> EXTERNAL_DATA_FILE_BIT & 1 == 1
+    }
+
+    /// Whether the header has an incompatible feature. A header that [`Header::load`] returns has none but
+    /// the external data file.
+    pub fn has_feature(&self, feature: IncompatibleFeatures) -> bool
+        ensures { result ≡ spec.has_feature feature self.now.base }
+    {
+        has_feature(&self.base, feature)
+    }
+
+    /// Returns the number of the compression type of compressed clusters: 0 for zlib, 1 for zstd.
+    ///
+    /// It is the byte at 104, and 0 if the header ends before it. Only a load that accepts the feature tests
+    /// it, so a header that [`Header::load`] returns may have any number.
+    pub fn compression_type(&self) -> u8
+        ensures { result ≡ spec.compression_type self.now.unknown_header_fields }
+    {
+        compression_type(&self.unknown_header_fields)
     }
 
     /// Returns the size of the guest's disk, in bytes.

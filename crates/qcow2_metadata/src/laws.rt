@@ -10,14 +10,15 @@ ghost use Rattle.qcow2_metadata.specs.Entries.{offset_field, with_copied};
 ghost use Rattle.qcow2_metadata.specs.Entries.L1Entry.{l1_fault};
 ghost use Rattle.qcow2_metadata.specs.Header.Open.{SaysSame, header_after_load, without_autoclear};
 ghost use Rattle.qcow2_metadata.specs.Header.Pointers.{HasNameElsewhere};
-ghost use Rattle.qcow2_metadata.specs.Header.{Geometry, HeaderRecord, IsValidHeader};
-ghost use Rattle.qcow2_metadata.specs.Header.Grammar.{IsHeader, header_of};
+ghost use Rattle.qcow2_metadata.specs.Header.{Geometry, HeaderRecord, IsValidHeader, compression_type};
+ghost use Rattle.qcow2_metadata.specs.Header.Grammar.{IsAcceptedHeader, accepted_header, header_of};
 ghost use Rattle.std.specs.Ordering.{is_eq};
 ghost use Rattle.std.specs.Str.Lossy.{utf8_lossy};
 ghost use Rattle.qcow2_base.specs.declared.fault.Fault.{Fault};
 ghost use Rattle.qcow2_metadata.specs.Header.Chain.{BreaksBy, IsChain, Link, extensions_at};
 ghost use Rattle.qcow2_metadata.specs.Header.Extensions.{FeatureKey, FeatureNameTable, FeatureNames, feature_name_in, key_cmp, until_zero, with_feature_name};
 ghost use Rattle.qcow2_metadata.specs.Header.Features.{feature_type_number};
+ghost use Rattle.qcow2_metadata.specs.declared.header.features.AcceptedFeatures.{AcceptedFeatures};
 ghost use Rattle.qcow2_metadata.specs.declared.header.features.FeatureType.{FeatureType};
 ghost use Rattle.qcow2_metadata.specs.Results.{result_map};
 ghost use Rattle.qcow2_metadata.specs.Header.Text.{IsSettled, header_after_write, header_read_back};
@@ -26,10 +27,19 @@ ghost use Rattle.qcow2_metadata.specs.Table.L2Guards.{GivesUp, clusters_freed_by
 
 use crate::Header;
 
-/// A header loads from an image exactly if the grammar says that the image begins with that header.
+/// A header loads from an image exactly if the grammar says that the image begins with that header, whichever
+/// features are accepted.
 pub fn the_grammar_and_the_reader_agree()
-    ensures { (image : Image) (header : HeaderRecord) →
-        (header_of image ≡ Ok header) ↔ IsHeader image header }
+    ensures { (accepted : AcceptedFeatures) (image : Image) (header : HeaderRecord) →
+        (accepted_header accepted image ≡ Ok header) ↔ IsAcceptedHeader accepted image header }
+{}
+
+/// A header that loads where no feature is accepted loads the same where some are, if its compression type is
+/// 0.
+pub fn a_load_that_accepts_more_reads_the_same()
+    ensures { (accepted : AcceptedFeatures) (image : Image) (header : HeaderRecord) →
+        header_of image ≡ Ok header → compression_type header.unknown_header_fields ≡ 0 →
+        accepted_header accepted image ≡ Ok header }
 {}
 
 /// A chain of extensions whose last one is invalid is refused with the fault of that one.
@@ -53,8 +63,9 @@ pub fn the_last_chunk_of_a_key_names_its_feature()
 /// Images with the same first cluster have the same header, or are refused with the same fault. The first
 /// cluster has `2 ^ cluster_bits` bytes, by the field at 20, and at least 512.
 pub fn only_the_first_cluster_matters()
-    ensures { (image other : Image) →
-        ((o : ℕ) → o < max 512 (2 ^ be image 20 4) → other o ≡ image o) → header_of other ≡ header_of image }
+    ensures { (accepted : AcceptedFeatures) (image other : Image) →
+        ((o : ℕ) → o < max 512 (2 ^ be image 20 4) → other o ≡ image o) →
+        accepted_header accepted other ≡ accepted_header accepted image }
 {}
 
 /// Every header in memory is valid.
@@ -81,9 +92,10 @@ pub fn a_header_made_writable_says_the_same()
 /// image has its old header without these features. This requires that the backing file's name has none of
 /// these bytes: the grammar allows a name anywhere in the first cluster, even over fields.
 pub fn a_cleared_field_leaves_the_other_parts_of_a_header()
-    ensures { (header : HeaderRecord) (image other : Image) → header_of image ≡ Ok header →
-        header.v2.version ≡ 3 → SameOutside 88 8 image other → be other 88 8 ≡ 0 → HasNameElsewhere header →
-        header_of other ≡ Ok (without_autoclear header) }
+    ensures { (accepted : AcceptedFeatures) (header : HeaderRecord) (image other : Image) →
+        accepted_header accepted image ≡ Ok header → header.v2.version ≡ 3 → SameOutside 88 8 image other →
+        be other 88 8 ≡ 0 → HasNameElsewhere header →
+        accepted_header accepted other ≡ Ok (without_autoclear header) }
 {}
 
 /// The number of spare entries by division is the least sufficient one, and at least 1.

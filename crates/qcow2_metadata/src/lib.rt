@@ -16,7 +16,7 @@ pub use entries::{
     RefTableEntry, Refused, TableEntry,
 };
 pub use header::{
-    AutoclearFeatures, CompatibleFeatures, FeatureType, Header, HeaderExtension,
+    AcceptedFeatures, AutoclearFeatures, CompatibleFeatures, FeatureType, Header, HeaderExtension,
     HeaderExtensionType, IncompatibleFeatures, UnknownValue,
 };
 pub use qcow2_base::{MAX_FILE_LENGTH, MAX_OFFSET};

@@ -1,5 +1,6 @@
 //! Tests of headers, their features, and their bytes as loaded and written.
 
+mod accepted_features;
 mod features;
 mod fixtures;
 mod header_load;

@@ -314,6 +314,18 @@ pub reports-later : {A B C : Type 0} (x : A) (y : B) (z : C) (fault : Fault) (pl
 reports-later x y z fault place len a b c d reads writes reports =
     record { failed = grind (arith, nat_tests, reads.told, writes.told, reports.failed); device = grind (arith, reads.device, writes.device, reports.device) }
 
+-- or the first of these writes failed
+pub reports-write : {A B : Type 0} (x : A) (answer : Result B Fault) (place : Option ℕ) (len : ℕ) (a b c : StorageState)
+    → OnlyReads (Ok x) a b → OnlyWrites answer place len b c → ReportsFailures answer a c
+reports-write x answer place len a b c reads writes =
+    record { failed = grind (arith, nat_tests, reads.told, writes.told); device = grind (arith, reads.device, writes.device) }
+
+-- or none did
+pub reports-none : {A B C : Type 0} (x : A) (y : B) (z : C) (place : Option ℕ) (len : ℕ) (a b c d : StorageState)
+    → OnlyReads (Ok x) a b → OnlyWrites (Ok y) place len b c → ReportsFailures {T = Unit {0}} (Ok tt) c d → ReportsFailures {T = C} (Ok z) a d
+reports-none x y z place len a b c d reads writes reports =
+    record { failed = grind (arith, nat_tests, reads.told, writes.told, reports.failed); device = grind (arith, reads.device, writes.device, reports.device) }
+
 -- where a header became one whose image may be written, and the bytes are known, that is what was done to these
 pub makes-writable : (header written : HeaderRecord) (old new : StorageState) → BecomesWritable header (Ok written) old new → IsTrue old.tells
     → MakesWritable header written old.byte_at new.byte_at

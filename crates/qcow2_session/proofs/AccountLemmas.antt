@@ -10,8 +10,9 @@ use Rattle.qcow2_check.specs.Totals.{corruptions_in, finding_totals, totals_on}
 use Rattle.qcow2_check.specs.Uses.{ImageTables}
 use Rattle.qcow2_check.specs.declared.findings.Finding.{Finding}
 use Rattle.qcow2_check.specs.declared.totals.Totals.{Totals}
-use Rattle.qcow2_metadata.specs.Header.{HeaderRecord, geometry_of}
+use Rattle.qcow2_metadata.specs.Header.{HeaderRecord, geometry_of, has_feature}
 use Rattle.qcow2_metadata.specs.Results.{result_map}
+use Rattle.qcow2_metadata.specs.declared.header.features.IncompatibleFeatures.TheVariants.{Corrupt, Dirty}
 use Rattle.qcow2_summary.specs.EntryCounts.{counted_entries, entry_counts}
 use Rattle.qcow2_summary.specs.ImageEnd.{findings_end, image_end, most_clusters}
 use Rattle.qcow2_summary.specs.declared.entry_counts.EntryCounts.{EntryCounts}
@@ -61,8 +62,9 @@ entries-checked header image tables entries found counted = grind (arith, found,
 pub account-is : (header : HeaderRecord) (image : Image) (tables : ImageTables) (account : Account) → checked_tables header image ≡ Ok tables
     → account.totals ≡ totals_on tables image → account.corruptions ≡ corruptions_in header account.totals
     → account.image_end ≡ image_end tables image → account.guest_clusters ≡ guest_clusters header
+    → account.is_dirty ≡ has_feature Dirty header.base → account.is_corrupt ≡ has_feature Corrupt header.base
     → counted_entries header image ≡ Ok account.entries → checked_account header image ≡ Ok account
-account-is header image tables account found totals corruptions end guests counted =
+account-is header image tables account found totals corruptions end guests dirty corrupt counted =
     let entries = entries-checked header image tables account.entries found counted in
-    let same : account ≡ account_of tables image = grind (arith, totals, rw (totals, ← entries.1) at corruptions, end, rw (← entries.1) at guests, entries.0) in
+    let same : account ≡ account_of tables image = grind (arith, totals, rw (totals, ← entries.1) at corruptions, end, rw (← entries.1) at guests, rw (← entries.1) at dirty, rw (← entries.1) at corrupt, entries.0) in
     ap (λ checked. result_map (λ each. account_of each image) checked) found ∙ ap Ok (sym same)

@@ -8,8 +8,7 @@ use Rattle.qcow2_check.proofs.FindingsListLemmas.{none-just-where-right}
 use Rattle.qcow2_check.proofs.TotalsLemmas.{none-counted}
 use Rattle.qcow2_check.specs.Findings.{AreRight, finding_at, findings_from, image_findings, is_leaked, is_missing, is_wrong}
 use Rattle.qcow2_check.specs.Flags.{image_flags}
-use Rattle.qcow2_check.specs.L1Length.{is_l1_short}
-use Rattle.qcow2_check.specs.Totals.{finding_totals, totals_on, verdict_in, verdict_of, with_flags}
+use Rattle.qcow2_check.specs.Totals.{finding_totals, is_harmed, totals_on, verdict_in, verdict_of, with_flags}
 use Rattle.qcow2_check.specs.Uses.{ImageTables}
 use Rattle.qcow2_check.specs.declared.findings.Finding.{Finding}
 use Rattle.qcow2_check.specs.declared.flags.WrongFlag.{WrongFlag}
@@ -32,17 +31,17 @@ first-wrong tables image from (suc count) found rest is = with_next (first-wrong
       | false ↦ λ right. next (grind (arith, right, is))
     ] refl
 
--- where the verdict on an image is that all is fine, its L1 table is long enough, and so is what was found
+-- where the verdict on an image is that all is fine, there is no damage that isn't counted, and what was found is fine too
 pub fine-in : (header : HeaderRecord) (totals : Totals) → verdict_in header totals ≡ Fine
-    → (is_l1_short header ≡ false) × (verdict_of totals ≡ Fine)
-fine-in header totals fine = by_length (is_l1_short header) refl
+    → (is_harmed header ≡ false) × (verdict_of totals ≡ Fine)
+fine-in header totals fine = by_test (is_harmed header) refl
   where
-    by_length : (short : Bool) → is_l1_short header ≡ short → (is_l1_short header ≡ false) × (verdict_of totals ≡ Fine)
-    by_length true short = absurd (never (rw short at fine))
+    by_test : (harmed : Bool) → is_harmed header ≡ harmed → (is_harmed header ≡ false) × (verdict_of totals ≡ Fine)
+    by_test true harmed = absurd (never (rw harmed at fine))
       where
         never : Harmful ≡ Fine → ⊥
         never is = grind (arith, is)
-    by_length false long = (long, rw long at fine)
+    by_test false unharmed = (unharmed, rw unharmed at fine)
 
 -- where the verdict is that all is fine, nothing is counted
 fine-zero : (totals : Totals) → verdict_of totals ≡ Fine → (totals.leaked ≡ 0) × (totals.missing ≡ 0) × (totals.shared ≡ 0)

@@ -7,8 +7,7 @@ use Rattle.qcow2_metadata.specs.Header.Open.{without_autoclear}
 use Rattle.qcow2_check.proofs.TotalsLemmas.{counts-none, none-counted}
 use Rattle.qcow2_check.specs.Findings.{checked_tables, image_findings, is_missing}
 use Rattle.qcow2_check.specs.Flags.{image_flags}
-use Rattle.qcow2_check.specs.L1Length.{is_l1_short}
-use Rattle.qcow2_check.specs.Totals.{harms_nobody, totals_on, verdict_in, verdict_of}
+use Rattle.qcow2_check.specs.Totals.{harms_nobody, is_harmed, totals_on, verdict_in, verdict_of}
 use Rattle.qcow2_check.specs.Uses.{ImageTables}
 use Rattle.qcow2_check.specs.declared.findings.Finding.{Finding}
 use Rattle.qcow2_apply.proofs.CheckedLemmas.{checked-planned, finds-none}
@@ -36,14 +35,14 @@ harmless-zero totals safe = by_test (harms_nobody totals) refl
 zero-harmless : (totals : Totals) → totals.missing ≡ 0 → totals.shared ≡ 0 → totals.false_flags ≡ 0 → verdict_of totals ≢ Harmful
 zero-harmless totals missing shared false_flags = λ harmful. grind (arith, nat_tests, missing, shared, false_flags, harmful)
 
--- where the verdict on an image isn't `Harmful`, its L1 table is long enough, and what was found does no harm
+-- where the verdict on an image isn't `Harmful`, there is no damage that isn't counted, and what was found does no harm
 harmless-in : (header : HeaderRecord) (totals : Totals) → verdict_in header totals ≢ Harmful
-    → (is_l1_short header ≡ false) × (verdict_of totals ≢ Harmful)
-harmless-in header totals safe = by_length (is_l1_short header) refl
+    → (is_harmed header ≡ false) × (verdict_of totals ≢ Harmful)
+harmless-in header totals safe = by_test (is_harmed header) refl
   where
-    by_length : (short : Bool) → is_l1_short header ≡ short → (is_l1_short header ≡ false) × (verdict_of totals ≢ Harmful)
-    by_length true short = absurd (safe (rw short refl))
-    by_length false long = (long, rw long at safe)
+    by_test : (harmed : Bool) → is_harmed header ≡ harmed → (is_harmed header ≡ false) × (verdict_of totals ≢ Harmful)
+    by_test true harmed = absurd (safe (rw harmed refl))
+    by_test false unharmed = (unharmed, rw unharmed at safe)
 
 -- so an image has no errors where the verdict on it isn't `Harmful`
 pub no-errors-of-verdict : (tables : ImageTables) (image : Image) → (report_on tables image).verdict ≢ Harmful → HasNoErrors tables image
@@ -57,19 +56,19 @@ no-errors-of-verdict tables image safe =
       flags = none-counted (λ flag. flag.is_set) (image_flags tables image) (omega (arith, zeros.2));
     }
 
--- and its L1 table is long enough
-pub long-of-verdict : (tables : ImageTables) (image : Image) → (report_on tables image).verdict ≢ Harmful → is_l1_short tables.header ≡ false
-long-of-verdict tables image safe = (harmless-in tables.header (totals_on tables image) safe).0
+-- and no damage that isn't counted
+pub unharmed-of-verdict : (tables : ImageTables) (image : Image) → (report_on tables image).verdict ≢ Harmful → is_harmed tables.header ≡ false
+unharmed-of-verdict tables image safe = (harmless-in tables.header (totals_on tables image) safe).0
 
 -- and only there
-pub verdict-of-no-errors : (tables : ImageTables) (image : Image) → HasNoErrors tables image → is_l1_short tables.header ≡ false
+pub verdict-of-no-errors : (tables : ImageTables) (image : Image) → HasNoErrors tables image → is_harmed tables.header ≡ false
     → (report_on tables image).verdict ≢ Harmful
-verdict-of-no-errors tables image none long =
+verdict-of-no-errors tables image none unharmed =
     let findings = image_findings tables image in
     let missing = counts-none is_missing findings (λ k d below. grind (arith, nat_tests, none.findings k d below)) in
     let shared = counts-none (λ (finding : Finding). finding.shared) findings (λ k d below. (none.findings k d below).1) in
     let flags = counts-none (λ flag. flag.is_set) (image_flags tables image) none.flags in
-    rw long (zero-harmless (totals_on tables image) missing shared (omega (arith, flags)))
+    rw unharmed (zero-harmless (totals_on tables image) missing shared (omega (arith, flags)))
 
 -- edits of a disk that were made by a plan leave no harm where there was none
 no-harm-by-plan : (header : HeaderRecord) (edits : List GuestEdit) (plan : Plan) (old new : Image) (tables : ImageTables) → IsValidHeader header
@@ -80,8 +79,8 @@ no-harm-by-plan header edits plan old new tables valid for of follows checked ap
     let after = finds-none header edits plan old new tables valid for of follows checked apart (no-errors-of-verdict tables old before) in
     let left : ImageTables = record tables { header = without_autoclear header } in
     let same : header ≡ tables.header = ap (λ (t : ImageTables). t.header) (checked-planned header edits plan old tables of checked) in
-    let long : is_l1_short left.header ≡ false = subst (λ h. is_l1_short h ≡ false) (sym same) (long-of-verdict tables old before) in
-    rw after.0 (verdict-of-no-errors left new after.1 long)
+    let unharmed : is_harmed left.header ≡ false = subst (λ h. is_harmed h ≡ false) (sym same) (unharmed-of-verdict tables old before) in
+    rw after.0 (verdict-of-no-errors left new after.1 unharmed)
 
 -- and so do all that were made, with the header that they leave, which the image has then
 pub no-harm-left : (header left : HeaderRecord) (edits : List GuestEdit) (clusters : ChangedClusters) (old new : Image) (tables : ImageTables)

@@ -6,7 +6,7 @@ use Rattle.qcow2_base.specs.Storage.{StorageState}
 use Rattle.qcow2_base.specs.declared.fault.Fault.{Fault}
 use Rattle.qcow2_base.specs.declared.fault.Fault.TheVariants.{Storage}
 use Rattle.qcow2_metadata.specs.Header.{HeaderRecord}
-use Rattle.qcow2_metadata.specs.Header.Grammar.{header_of}
+use Rattle.qcow2_metadata.specs.Header.Grammar.{accepted_header}
 use Rattle.qcow2_metadata.specs.Header.Open.{header_after_load}
 use Rattle.qcow2_metadata.specs.Results.{Answers}
 use Rattle.qcow2_session.proofs.PrintingLemmas.{run_between}
@@ -40,7 +40,7 @@ header-for facts header old new found = by_words facts.cluster_bits refl
 -- the header that is loaded for a command is the one of the image's bytes, where these are known
 pub header-by-bytes : (facts : CommandFacts) (found : Result HeaderRecord Fault) (old left : StorageState)
     → FindsHeader facts found old left → facts.cluster_bits ≡ None → IsTrue old.tells
-    → Answers (λ header. header) found (header_after_load facts.loads_to_write (header_of old.byte_at))
+    → Answers (λ header. header) found (header_after_load facts.loads_to_write (accepted_header facts.accepts old.byte_at))
     × (facts.loads_to_write ≡ false → left.byte_at ≡ old.byte_at)
 header-by-bytes facts found old left finds none known =
     let loads = rw none at finds in

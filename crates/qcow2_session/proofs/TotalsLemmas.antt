@@ -5,8 +5,7 @@ use Rattle.std.specs.List.{sum_by}
 use Rattle.qcow2_base.specs.Storage.{Image}
 use Rattle.qcow2_check.proofs.FindingsListLemmas.{none-just-where-right}
 use Rattle.qcow2_check.specs.Flags.{image_flags}
-use Rattle.qcow2_check.specs.L1Length.{is_l1_short}
-use Rattle.qcow2_check.specs.Totals.{totals_on, verdict_of}
+use Rattle.qcow2_check.specs.Totals.{is_harmed, totals_on, verdict_of}
 use Rattle.qcow2_check.specs.Uses.{ImageTables}
 use Rattle.qcow2_check.specs.declared.flags.WrongFlag.{WrongFlag}
 use Rattle.qcow2_metadata.specs.Table.L2Guards.{one_if}
@@ -34,7 +33,7 @@ no-flags (flag ∷ flags) set unset = absurd (counts flag.is_set _ _
     (sym (sum_by-cons (λ (flag : WrongFlag). one_if (not flag.is_set)) flag flags) ∙ unset))
 
 pub consistent-where-fine : (tables : ImageTables) (image : Image) → (report_on tables image).verdict ≡ Fine
-    → IsConsistent tables image × (is_l1_short tables.header ≡ false)
+    → IsConsistent tables image × (is_harmed tables.header ≡ false)
 consistent-where-fine tables image fine =
     let both = fine-in tables.header (totals_on tables image) fine in
     let none = fine-flags (totals_on tables image) both.1 in (
@@ -45,6 +44,6 @@ consistent-where-fine tables image fine =
       both.0,
     )
 
-pub fine-where-consistent : (tables : ImageTables) (image : Image) → IsConsistent tables image × (is_l1_short tables.header ≡ false)
+pub fine-where-consistent : (tables : ImageTables) (image : Image) → IsConsistent tables image × (is_harmed tables.header ≡ false)
     → (report_on tables image).verdict ≡ Fine
 fine-where-consistent tables image none = rw (none.1, none.0.0, none.0.1) refl

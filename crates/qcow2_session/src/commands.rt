@@ -6,6 +6,7 @@ ghost use Rattle.qcow2_session.specs.Commands.Words.{Parses};
 
 use crate::{Edit, Step};
 use qcow2_base::{GuestOffset, HostCluster};
+use qcow2_metadata::AcceptedFeatures;
 use std::alloc::{AllocError, Global};
 
 mod apply;
@@ -177,6 +178,38 @@ impl Command {
             self,
             Command::List | Command::Map { .. } | Command::Layout { .. } | Command::Check { .. }
         )
+    }
+
+    /// The incompatible features with which the command accepts an image, beside the external data file.
+    pub fn accepted_features(&self) -> AcceptedFeatures
+        ensures { result ≡ (spec.facts_of self.now).accepts }
+    {
+        match self {
+            Command::Map { .. }
+            | Command::Tables
+            | Command::Layout { .. }
+            | Command::Refcount { .. }
+            | Command::Check {
+                form: CheckForm::Text | CheckForm::Json { .. },
+            } => AcceptedFeatures {
+                dirty: true,
+                corrupt: true,
+                compression_type: true,
+            },
+            Command::Check {
+                form: CheckForm::Repair,
+            }
+            | Command::Apply { .. } => AcceptedFeatures {
+                dirty: false,
+                corrupt: false,
+                compression_type: true,
+            },
+            _ => AcceptedFeatures {
+                dirty: false,
+                corrupt: false,
+                compression_type: false,
+            },
+        }
     }
 
     // Whether the command loads its header for writing. A repair writes only once it knows that it can

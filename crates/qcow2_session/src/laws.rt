@@ -8,12 +8,12 @@ ghost use Rattle.qcow2_base.specs.Storage.{Image, IsBytes, StorageState};
 ghost use Rattle.qcow2_base.specs.declared.fault.Fault.{Fault};
 ghost use Rattle.qcow2_metadata.specs.Entries.L2Mapping.{Mapping};
 ghost use Rattle.qcow2_metadata.specs.Header.{HeaderRecord, IsValidHeader, geometry_of};
-ghost use Rattle.qcow2_metadata.specs.Header.Grammar.{header_of};
+ghost use Rattle.qcow2_metadata.specs.Header.Grammar.{accepted_header, header_of};
 ghost use Rattle.qcow2_metadata.specs.Header.Open.{header_after_load};
 ghost use Rattle.qcow2_metadata.specs.Results.{Answers, result_map};
 ghost use Rattle.qcow2_check.specs.Counters.{blocks_fault};
 ghost use Rattle.qcow2_check.specs.Findings.{AreRight, checked_tables};
-ghost use Rattle.qcow2_check.specs.L1Length.{is_l1_short};
+ghost use Rattle.qcow2_check.specs.Totals.{is_harmed};
 ghost use Rattle.qcow2_check.specs.Uses.{ImageTables};
 ghost use Rattle.qcow2_summary.specs.Consistency.{IsConsistent};
 ghost use Rattle.qcow2_apply.specs.Errors.{HasNoErrors};
@@ -42,15 +42,16 @@ pub use qcow2_image::laws::{
 };
 
 /// If the image's bytes are known, a command that loads its header gets exactly the header or the fault
-/// that the grammar finds in them, unless memory runs out or a call of the storage fails. If it loads the
-/// header for writing, that is the header without autoclear bits, or the fault of writing it. Otherwise the
-/// bytes stay.
+/// that the grammar finds in them, by the features that the command accepts, unless memory runs out or a
+/// call of the storage fails. If it loads the header for writing, that is the header without autoclear bits,
+/// or the fault of writing it. Otherwise the bytes stay.
 pub fn a_command_goes_by_the_header_of_its_bytes()
     ensures { (command : Command) (found : Result HeaderRecord Fault) (old left : StorageState) →
         FindsHeader (facts_of command) found old left → (facts_of command).cluster_bits ≡ None →
         IsTrue old.tells →
         Answers (λ header. header) found
-        (header_after_load (facts_of command).loads_to_write (header_of old.byte_at))
+        (header_after_load (facts_of command).loads_to_write
+        (accepted_header (facts_of command).accepts old.byte_at))
         × ((facts_of command).loads_to_write ≡ false → left.byte_at ≡ old.byte_at) }
 {}
 
@@ -60,18 +61,19 @@ pub fn all_is_right_where_the_verdict_is_fine()
         AreRight tables image 0 max_file_length }
 {}
 
-/// A check's verdict is `Fine` exactly if the image is consistent and its L1 table is long enough: no
-/// cluster has a finding, no copied flag is wrong, and no part of the disk is past the L1 table.
+/// A check's verdict is `Fine` exactly if the image is consistent and not marked corrupt, and its L1 table is
+/// long enough: no cluster has a finding, no copied flag is wrong, and no part of the disk is past the L1
+/// table.
 pub fn a_verdict_is_fine_just_where_an_image_is_consistent()
     ensures { (tables : ImageTables) (image : Image) → ((report_on tables image).verdict ≡ Fine)
-        ↔ (IsConsistent tables image × (is_l1_short tables.header ≡ false)) }
+        ↔ (IsConsistent tables image × (is_harmed tables.header ≡ false)) }
 {}
 
-/// A check's verdict is `Harmful` exactly if a cluster is missing or shared, a copied flag is false, or the
-/// L1 table is too short for the disk.
+/// A check's verdict is `Harmful` exactly if a cluster is missing or shared, a copied flag is false, the
+/// image is marked corrupt, or the L1 table is too short for the disk.
 pub fn a_verdict_is_harmful_just_where_there_are_errors()
     ensures { (tables : ImageTables) (image : Image) → ((report_on tables image).verdict ≢ Harmful)
-        ↔ (HasNoErrors tables image × (is_l1_short tables.header ≡ false)) }
+        ↔ (HasNoErrors tables image × (is_harmed tables.header ≡ false)) }
 {}
 
 /// If the verdict on an image isn't `Harmful`, and no two L1 entries name one L2 table, the verdict after

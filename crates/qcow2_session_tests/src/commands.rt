@@ -5,6 +5,7 @@ pub(crate) mod check;
 pub(crate) mod check_json;
 mod check_repair;
 mod explain;
+mod features;
 pub(crate) mod in_memory;
 mod known_host;
 mod requests;

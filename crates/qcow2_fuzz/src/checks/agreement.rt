@@ -32,6 +32,16 @@ pub(crate) fn check_map(trial: &mut Trial<'_>, readings: &Readings) -> Result<()
         "extents as long as can be",
         "two that are one",
     );
+    if readings.has_both() {
+        check_listed(trial, readings);
+    }
+    check_json(trial, readings)
+}
+
+// Reports extents that contradict `list`.
+fn check_listed(trial: &mut Trial<'_>, readings: &Readings) {
+    let (fields, line) = (trial.fields, "map IMAGE");
+    let extents = readings.extents.as_slice();
     trial.unless(
         readings.map.is_ok() || readings.map == readings.list,
         line,
@@ -46,7 +56,6 @@ pub(crate) fn check_map(trial: &mut Trial<'_>, readings: &Readings) -> Result<()
             || readings.map.is_err()
     });
     trial.unless(agree, line, "what `list` prints", "other contents");
-    check_json(trial, readings)
 }
 
 // The end of extents that follow one another from offset 0 on, if they do and none is empty.

@@ -2,6 +2,7 @@
 
 use super::drawn;
 use super::readings::Readings;
+use crate::fields::Fields;
 use crate::kinds::Kind;
 use crate::random::Random;
 use crate::text::{json_number, last_line, number_of, offset_of};
@@ -26,7 +27,7 @@ pub(crate) fn check_books(
 ) -> Result<(), Fault> {
     let totals = readings.totals;
     let verdict = match (
-        totals.has_errors() || trial.fields.is_l1_short(),
+        totals.has_errors() || trial.fields.is_l1_short() || trial.fields.is_corrupt,
         totals.leaked != 0 || totals.late_flags != 0,
     ) {
         (true, _) => Verdict::Harmful,
@@ -55,19 +56,27 @@ fn check_json(trial: &mut Trial<'_>, readings: &Readings) -> Result<(), Fault> {
         .saturating_add(totals.false_flags)
         .saturating_add(totals.late_flags)
         .saturating_add(u64::from(check.is_ok() && trial.fields.is_l1_short()));
+    let fields = trial.fields;
     let text = trial.printed();
     let is_same = json_number(text, "\"leaks\"") == Some(totals.leaked)
         && json_number(text, "\"corruptions\"") == Some(corruptions)
         && json_number(text, "\"shared\"") == Some(totals.shared)
         && json_number(text, "\"false-flags\"") == Some(totals.false_flags)
         && json_number(text, "\"late-flags\"") == Some(totals.late_flags);
+    let is_marked = check.is_err() || has_marks(text, fields);
     trial.unless(
-        check == readings.check && is_same,
+        check == readings.check && is_same && is_marked,
         line,
         "what `check` says",
         "others",
     );
     Ok(())
+}
+
+// Whether the object has the marks that the header has.
+fn has_marks(text: &str, fields: Fields) -> bool {
+    text.contains("\"dirty\": true") == fields.is_dirty
+        && text.contains("\"corrupt\": true") == fields.is_corrupt
 }
 
 fn check_layout(trial: &mut Trial<'_>, readings: &Readings) -> Result<(), Fault> {

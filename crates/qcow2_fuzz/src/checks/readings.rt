@@ -21,6 +21,12 @@ pub(crate) struct Readings {
 }
 
 impl Readings {
+    /// Whether both `list` and `map` accept the features of the image.
+    pub(crate) fn has_both(&self) -> bool {
+        let is_accepted = |answer| !matches!(answer, Err(Fault::Incompatible(_)));
+        is_accepted(self.list) && is_accepted(self.map)
+    }
+
     /// Whether the tables of the image don't overlap, as far as `check` shows.
     pub(crate) fn lie_apart(&self) -> bool {
         self.check.is_ok() && self.totals.shared == 0 && self.has_distinct_tables
@@ -69,15 +75,15 @@ fn read_map(trial: &mut Trial<'_>) -> Result<(Answer, Vec<Extent>), Fault> {
 /// Runs `check`, and returns its totals too: zeros if it is refused.
 pub(crate) fn read_check(trial: &mut Trial<'_>) -> Result<(Answer, Totals), Fault> {
     let check = trial.run(Kind::Check, "check IMAGE")?;
-    let is_short = trial
-        .printed()
-        .lines()
-        .any(|line| line.starts_with("short-l1 "));
-    let holds = check.is_err() || is_short == trial.fields.is_l1_short();
+    let fields = trial.fields;
+    let says = |start: &str| trial.printed().lines().any(|line| line.starts_with(start));
+    let holds = says("short-l1 ") == fields.is_l1_short()
+        && says("dirty") == fields.is_dirty
+        && says("corrupt") == fields.is_corrupt;
     trial.unless(
-        holds,
+        check.is_err() || holds,
         "check IMAGE",
-        "whether the L1 table is too short",
+        "what the header says",
         "otherwise",
     );
     match totals_in(trial.printed()) {

@@ -35,7 +35,7 @@ pub(super) fn put_extensions(draft: &mut Draft, random: &mut Random) {
 }
 
 fn put_features(draft: &mut Draft, random: &mut Random) {
-    let incompatible = if draft.is_external { 4 } else { 0 };
+    let incompatible = if draft.is_external { 4 } else { 0 } | marks(random);
     let autoclear = if random.is_one_in(4) {
         random.below(4)
     } else {
@@ -44,9 +44,20 @@ fn put_features(draft: &mut Draft, random: &mut Random) {
     let order = draft.refcount_order;
     let bytes = draft.bytes.as_mut_slice();
     put_u64(bytes, 72, incompatible);
+    // the compression type, unless an extension begins there
+    put_u64(bytes, 104, (incompatible & 8) << 53);
     put_u64(bytes, 80, random.below(2));
     put_u64(bytes, 88, autoclear);
     put_u32(bytes, 96, order);
+}
+
+// Draws the bits of features with which some commands accept an image, mostly none.
+fn marks(random: &mut Random) -> u64 {
+    if random.is_one_in(4) {
+        random.pick(&[1, 2, 3, 8], 0)
+    } else {
+        0
+    }
 }
 
 // Puts the header's length and extensions, and returns where they end.

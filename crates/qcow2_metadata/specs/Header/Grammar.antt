@@ -1,5 +1,5 @@
 -- Which header do the bytes of an image have, or which fault?
-use Rattle.std.specs.Prelude.{◌≡◌, ◌≢◌, ◌⊎◌, ℕ, ◌+◌, ◌-◌, ◌^◌, ◌%◌, ◌≤◌, ◌==◌, nat_le, ◌||◌, ◌&&◌, Bool, List, [], ◌∷◌, Option, Some, None, Result, Ok, true, false}
+use Rattle.std.specs.Prelude.{◌≡◌, ◌≢◌, ◌⊎◌, ℕ, ◌+◌, ◌-◌, ◌^◌, ◌%◌, ◌≤◌, ◌==◌, nat_le, ◌||◌, ◌&&◌, not, Bool, List, [], ◌∷◌, Option, Some, None, Result, Ok, true, false}
 use Rattle.std.specs.List.{IsAmong}
 use Rattle.std.specs.Str.{IsUtf8}
 use Rattle.qcow2_base.specs.Format.{max_backing_filename}
@@ -12,11 +12,14 @@ use Rattle.qcow2_base.specs.declared.fault.Fault.TheVariants.{NotQcow2, Version,
 use Rattle.qcow2_base.specs.declared.on_disk_struct.v2_header.V2Header.{V2Header}
 use Rattle.qcow2_base.specs.declared.on_disk_struct.v3_header_base.V3HeaderBase.{V3HeaderBase}
 use Rattle.qcow2_metadata.specs.Results.{and_then, after_conditions, result_map}
-use Rattle.qcow2_metadata.specs.Header.{HeaderRecord, all_same, default_base, magic, names_by, other_features}
+use Rattle.qcow2_metadata.specs.Header.{Accepts, HeaderRecord, all_same, default_base, is_compression, magic, names_by, no_feature, other_features}
 use Rattle.qcow2_metadata.specs.Header.Chain.{SaysExtensions, extensions_at}
 use Rattle.qcow2_metadata.specs.Header.Extensions.{Extension, name_in, text}
+use Rattle.qcow2_metadata.specs.Header.Features.{incompatible_bit}
 use Rattle.qcow2_metadata.specs.Range.{bytes_at}
 use Rattle.qcow2_metadata.specs.declared.header.extensions.HeaderExtensionType.TheVariants as kind
+use Rattle.qcow2_metadata.specs.declared.header.features.AcceptedFeatures.{AcceptedFeatures}
+use Rattle.qcow2_metadata.specs.declared.header.features.IncompatibleFeatures.TheVariants.{CompressionType}
 
 -- the part of a header that each version has
 abbrev pub v2_at : Image → V2Header
@@ -93,12 +96,14 @@ header_extensions image v2 base = elim (v2.version == 3) [
   | false ↦ Ok []
 ]
 
--- the conditions that need all extensions: features but the external data file, bit 2, are refused
-abbrev pub last_conditions : V3HeaderBase → List Extension → List (Bool × Fault)
-last_conditions base extensions =
+-- the conditions that need all extensions: features but the external data file, bit 2, and those that are accepted are
+-- refused, and where a compression type is accepted, one that there isn't
+abbrev pub last_conditions : AcceptedFeatures → V3HeaderBase → List ℕ → List Extension → List (Bool × Fault)
+last_conditions accepted base unknown_header_fields extensions =
     (all_same (names_by (name_in kind.BackingFileFormat) extensions), FormatConflict)
     ∷ (all_same (names_by (name_in kind.ExternalDataFileName) extensions), DataFileConflict)
-    ∷ (other_features base == 0, Incompatible (other_features base))
+    ∷ (other_features accepted base == 0, Incompatible (other_features accepted base))
+    ∷ (not accepted.compression_type || is_compression base unknown_header_fields, Incompatible (2 ^ incompatible_bit CompressionType))
     ∷ []
 
 -- the part that version 3 adds comes after the first, and version 2 has none
@@ -123,8 +128,8 @@ pub record HasExtensions (image : Image) (v2 : V2Header) (base : V3HeaderBase) (
 abbrev pub AreSame : List (List ℕ) → Type 0
 AreSame names = (a b : List ℕ) → IsAmong names a → IsAmong names b → a ≡ b
 
--- the image begins with this header
-pub record IsHeader (image : Image) (header : HeaderRecord) : Type 0 where
+-- the image begins with this header, whose features are accepted
+pub record IsAcceptedHeader (accepted : AcceptedFeatures) (image : Image) (header : HeaderRecord) : Type 0 where
   pub v2 : HoldsLayout image (v2_header header.v2)
   pub base : IsBase image header.v2.version header.base
   pub magic : header.v2.magic ≡ magic
@@ -140,7 +145,11 @@ pub record IsHeader (image : Image) (header : HeaderRecord) : Type 0 where
   pub extensions : HasExtensions image header.v2 header.base header.extensions
   pub one_format : AreSame (names_by (name_in kind.BackingFileFormat) header.extensions)
   pub one_data_file : AreSame (names_by (name_in kind.ExternalDataFileName) header.extensions)
-  pub features : other_features header.base ≡ 0
+  pub accepts : Accepts accepted header.base header.unknown_header_fields
+
+-- the image begins with this header, which has no feature but the external data file
+abbrev pub IsHeader : Image → HeaderRecord → Type 0
+IsHeader = IsAcceptedHeader no_feature
 
 -- the refusals of the grammar
 abbrev pub IsHeaderFault : Fault → Type 0
@@ -158,19 +167,24 @@ pub record AreValidParts (v2 : V2Header) (base : V3HeaderBase) : Type 0 where
   pub older : v2.version ≡ 2 → base ≡ default_base
 
 -- the header of an image with these fixed parts, or the fault of the first condition that the rest of it fails
-abbrev pub header_with_parts : Image → V2Header × V3HeaderBase → Result HeaderRecord Fault
-header_with_parts image parts =
+abbrev pub header_with_parts : AcceptedFeatures → Image → V2Header × V3HeaderBase → Result HeaderRecord Fault
+header_with_parts accepted image parts =
+    let unknown_header_fields = bytes_at image 104 (parts.1.header_length - 104) in
     and_then (backing_name image parts.0) (λ name.
     and_then (header_extensions image parts.0 parts.1) (λ extensions.
-    after_conditions (last_conditions parts.1 extensions) (λ _.
+    after_conditions (last_conditions accepted parts.1 unknown_header_fields extensions) (λ _.
     Ok (record {
       v2 = parts.0;
       base = parts.1;
-      unknown_header_fields = bytes_at image 104 (parts.1.header_length - 104);
+      unknown_header_fields = unknown_header_fields;
       backing_filename = name;
       extensions = extensions;
     }))))
 
--- the header of an image, or the fault of the first condition that it fails
-unfoldable pub header_of : Image → Result HeaderRecord Fault
-header_of image = and_then (fixed_parts image) (header_with_parts image)
+-- the header of an image for who accepts these features, or the fault of the first condition that it fails
+unfoldable pub accepted_header : AcceptedFeatures → Image → Result HeaderRecord Fault
+accepted_header accepted image = and_then (fixed_parts image) (header_with_parts accepted image)
+
+-- the header of an image for who accepts none
+abbrev pub header_of : Image → Result HeaderRecord Fault
+header_of = accepted_header no_feature

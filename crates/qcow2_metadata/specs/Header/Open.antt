@@ -5,9 +5,10 @@ use Rattle.qcow2_base.specs.Storage.{Holds, OnImage, OnImages, OnlyReads, OnlyWr
 use Rattle.qcow2_base.specs.declared.fault.Fault.{Fault}
 use Rattle.qcow2_base.specs.declared.fault.Fault.TheVariants.{HeaderTooLong, NameTooLong}
 use Rattle.qcow2_metadata.specs.Results.{Answers, IsFromOutside, RefusesFirst, and_then}
-use Rattle.qcow2_metadata.specs.Header.{HeaderRecord}
-use Rattle.qcow2_metadata.specs.Header.Grammar.{IsHeaderFault, header_of}
+use Rattle.qcow2_metadata.specs.Header.{HeaderRecord, no_feature}
+use Rattle.qcow2_metadata.specs.Header.Grammar.{IsHeaderFault, accepted_header}
 use Rattle.qcow2_metadata.specs.Header.Text.{IsSettled, IsWrittenHeader, chosen_text, header_after_write, is_other, is_short}
+use Rattle.qcow2_metadata.specs.declared.header.features.AcceptedFeatures.{AcceptedFeatures}
 
 -- the header with no autoclear feature
 abbrev pub without_autoclear : HeaderRecord → HeaderRecord
@@ -63,24 +64,28 @@ pub record BecomesWritable (header : HeaderRecord) (answer : Result HeaderRecord
   pub storage : OnlyWrites answer (Some 0) (length (opened_text true (Ok header))) old new
 
 -- a load had to write: the header that it read is one that is rewritten
-abbrev pub HadToWrite : Bool → StorageState → Type 0
-HadToWrite writable old =
-    IsTrue old.tells × IsOkAnd (header_of old.byte_at) (λ header. IsTrue (is_rewritten writable header))
+abbrev pub HadToWrite : AcceptedFeatures → Bool → StorageState → Type 0
+HadToWrite accepted writable old =
+    IsTrue old.tells × IsOkAnd (accepted_header accepted old.byte_at) (λ header. IsTrue (is_rewritten writable header))
 
 -- a load that ended in this answer: it only reads where nobody is to write. Else it places the header without
 -- autoclear features, where it had any, and changes no byte past it. The header that it returns then is written and
 -- settled, as after any write
-pub record Opens (writable : Bool) (answer : Result HeaderRecord Fault) (old new : StorageState) : Type 0 where
+pub record Opens (accepted : AcceptedFeatures) (writable : Bool) (answer : Result HeaderRecord Fault) (old new : StorageState) : Type 0 where
   pub reads : writable ≡ false → OnlyReads answer old new
-  pub writes : OnlyWrites answer (Some 0) (length (opened_text writable (header_of old.byte_at))) old new
-  pub placed : OnImages old new (λ before after. OnOk answer (Holds after 0 (opened_text writable (header_of before))))
-  pub written : HadToWrite writable old → IfOk answer (IsWrittenHeader new.byte_at)
-  pub settled : HadToWrite writable old → IfOk answer IsSettled
+  pub writes : OnlyWrites answer (Some 0) (length (opened_text writable (accepted_header accepted old.byte_at))) old new
+  pub placed : OnImages old new (λ before after. OnOk answer (Holds after 0 (opened_text writable (accepted_header accepted before))))
+  pub written : HadToWrite accepted writable old → IfOk answer (IsWrittenHeader new.byte_at)
+  pub settled : HadToWrite accepted writable old → IfOk answer IsSettled
 
--- a load of an image's header ended in this answer: the header that the bytes have by the grammar, opened, or the fault
--- of the first condition that they fail. Its backing file's name is one that can be written
-pub record Loads (writable : Bool) (answer : Result HeaderRecord Fault) (old new : StorageState) : Type 0 where
-  pub exact : OnImage old (λ bytes. Answers (λ header. header) answer (header_after_load writable (header_of bytes)))
+-- a load of an image's header by who accepts these features ended in this answer: the header that the bytes have by the
+-- grammar, opened, or the fault of the first condition that they fail. Its backing file's name is one that can be written
+pub record LoadsAccepted (accepted : AcceptedFeatures) (writable : Bool) (answer : Result HeaderRecord Fault) (old new : StorageState) : Type 0 where
+  pub exact : OnImage old (λ bytes. Answers (λ header. header) answer (header_after_load writable (accepted_header accepted bytes)))
   pub faults : IfErr answer (λ fault. (IsHeaderFault fault ⊎ ((writable ≡ true) × (fault ≡ HeaderTooLong))) ⊎ IsFromOutside fault)
   pub short : IfOk answer (λ header. is_short header.backing_filename ≡ true)
-  pub storage : Opens writable answer old new
+  pub storage : Opens accepted writable answer old new
+
+-- a load by who accepts none
+abbrev pub Loads : Bool → Result HeaderRecord Fault → StorageState → StorageState → Type 0
+Loads = LoadsAccepted no_feature

@@ -10,10 +10,11 @@ use Rattle.qcow2_base.specs.declared.fault.Fault.TheVariants.{HeaderTooLong, Nam
 use Rattle.qcow2_base.specs.declared.on_disk_struct.v2_header.V2Header.{V2Header}
 use Rattle.qcow2_base.specs.declared.on_disk_struct.v3_header_base.V3HeaderBase.{V3HeaderBase}
 use Rattle.qcow2_metadata.specs.Results.{after_conditions}
-use Rattle.qcow2_metadata.specs.Header.{HeaderRecord}
+use Rattle.qcow2_metadata.specs.Header.{Accepts, HeaderRecord}
 use Rattle.qcow2_metadata.specs.Header.Extensions.{Extension, FeatureNameTable, data_of, normal_extension, type_number}
-use Rattle.qcow2_metadata.specs.Header.Grammar.{IsHeader}
+use Rattle.qcow2_metadata.specs.Header.Grammar.{IsAcceptedHeader}
 use Rattle.qcow2_metadata.specs.declared.header.text.Layout.{Layout}
+use Rattle.qcow2_metadata.specs.declared.header.features.AcceptedFeatures.{AcceptedFeatures}
 
 -- the bytes of fields that follow one another, the most significant one of each first
 abbrev pub fields_text : List LayoutField → List ℕ
@@ -153,10 +154,11 @@ IsChosen header answer = MatchResult answer
     (λ layout. IsLayout (header_to_write layout.with_names header) layout × (header_after_write header ≡ Ok (header_with_places (header_to_write layout.with_names header))))
     (λ fault. header_after_write header ≡ Err fault)
 
--- a header that was written: its text is at the image's start, and is read back as the normal form
+-- a header that was written: its text is at the image's start, and who accepts its features reads it back as the normal form
 pub record IsWrittenHeader (image : Image) (header : HeaderRecord) : Type 0 where
   pub text : Holds image 0 (header_text header)
-  pub reads_back : IsHeader image (header_read_back header)
+  pub reads_back : (accepted : AcceptedFeatures) → Accepts accepted header.base header.unknown_header_fields
+      → IsAcceptedHeader accepted image (header_read_back header)
 
 -- a header that was written stays as it is: to write it again places the same bytes, and so does what it reads
 -- back as, which reads back as itself

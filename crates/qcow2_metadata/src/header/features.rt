@@ -105,6 +105,21 @@ impl From<IncompatibleFeatures> for (FeatureType, u8) {
     }
 }
 
+/// The incompatible features with which a header is accepted, beside the external data file. By default there
+/// are none.
+///
+/// No call looks at the marks `dirty` and `corrupt`. A program that accepts them can read the image, but must
+/// not change it: refcounts may be wrong, so edits could free clusters in use.
+#[derive(Clone, Copy, Debug, Default, PartialEq, Eq)]
+pub struct AcceptedFeatures {
+    /// Refcounts may be wrong: a program stopped before it wrote all of them.
+    pub dirty: bool,
+    /// Any structure may be wrong: a program has found one that is.
+    pub corrupt: bool,
+    /// Compressed clusters have another compression than the default. Which one, the byte at 104 says.
+    pub compression_type: bool,
+}
+
 /// Compatible features. The number of each is its bit as a mask, `2^bit`.
 #[derive(Clone, Copy, Debug, PartialEq, Eq)]
 pub enum CompatibleFeatures {

@@ -2,8 +2,8 @@
 
 ghost use Rattle.std.specs.Prelude.{◌≡◌, IfOk, true};
 ghost use Rattle.qcow2_metadata.specs.Results.{Reads};
-ghost use Rattle.qcow2_metadata.specs.Header.Open.{Loads};
-ghost use Rattle.qcow2_metadata.specs.Header.Grammar.{AreValidParts, IsHeaderFault, header_of, header_with_parts};
+ghost use Rattle.qcow2_metadata.specs.Header.Open.{Loads, LoadsAccepted};
+ghost use Rattle.qcow2_metadata.specs.Header.Grammar.{AreValidParts, IsHeaderFault, accepted_header, header_with_parts};
 ghost use Rattle.qcow2_metadata.specs.Header.Text.{is_short};
 ghost use Rattle.qcow2_metadata.specs.ReadAhead.{ReadsThrough};
 
@@ -11,6 +11,7 @@ use super::Header;
 use super::backing_filename::read_backing_filename;
 use super::bytes::read_bytes;
 use super::extensions::read_header_extensions;
+use super::features::AcceptedFeatures;
 use super::fixed_parts::{FIXED_BYTES, cluster_size, read_fixed_parts};
 use super::names::check_extensions;
 use crate::read_ahead::ReadAhead;
@@ -34,7 +35,30 @@ impl Header {
     pub fn load<S: Storage>(alloc: Global, image: &mut S, writable: bool) -> Result<Header, Fault>
         ensures { Loads writable result (S.state image.old) (S.state image.new) }
     {
-        let header = read_header(alloc, image)?;
+        let accepted = AcceptedFeatures {
+            dirty: false,
+            corrupt: false,
+            compression_type: false,
+        };
+        Header::load_accepting(alloc, image, writable, accepted)
+    }
+
+    /// Loads the header of an image as [`Header::load`] does, and accepts some incompatible features that
+    /// that call refuses (fault 17).
+    ///
+    /// A program must know an image's incompatible features to open it. By `accepted` the caller says which
+    /// ones it knows. The external data file is always accepted. If `compression_type` is accepted, the byte
+    /// at 104 must be 1 (zstd) if the feature's bit is set, and else 0 (zlib) or past the header's end: any
+    /// other value is refused by fault 17 with that bit.
+    pub fn load_accepting<S: Storage>(
+        alloc: Global,
+        image: &mut S,
+        writable: bool,
+        accepted: AcceptedFeatures,
+    ) -> Result<Header, Fault>
+        ensures { LoadsAccepted accepted writable result (S.state image.old) (S.state image.new) }
+    {
+        let header = read_header(alloc, image, accepted)?;
         if !writable {
             return Ok(header);
         }
@@ -42,15 +66,18 @@ impl Header {
     }
 }
 
-#[tactic(auto, unfolding(crate::specs::Header::Grammar::header_of))]
-fn read_header<S: Storage>(alloc: Global, image: &mut S) -> Result<Header, Fault>
-    ensures reads { Reads (λ header. header) result header_of IsHeaderFault
+fn read_header<S: Storage>(
+    alloc: Global,
+    image: &mut S,
+    accepted: AcceptedFeatures,
+) -> Result<Header, Fault>
+    ensures reads { Reads (λ header. header) result (accepted_header accepted) IsHeaderFault
         (S.state image.old) (S.state image.new) }
     ensures short { IfOk result (λ header. is_short header.backing_filename ≡ true) }
 {
     let (v2, base) = read_fixed_parts(image)?;
     let mut ahead = ReadAhead::new(image, cluster_size(&v2));
-    read_other_parts(alloc, &mut ahead, v2, base)
+    read_other_parts(alloc, &mut ahead, v2, base, accepted)
 }
 
 // Returns the header of an image with these two fixed parts.
@@ -59,17 +86,18 @@ fn read_other_parts<S: Storage>(
     image: &mut ReadAhead<S>,
     v2: V2Header,
     base: V3HeaderBase,
+    accepted: AcceptedFeatures,
 ) -> Result<Header, Fault>
     requires { AreValidParts v2 base }
     ensures reads { ReadsThrough S.state (λ header. header) result
-        (λ bytes. header_with_parts bytes (v2, base)) IsHeaderFault image.old image.new }
+        (λ bytes. header_with_parts accepted bytes (v2, base)) IsHeaderFault image.old image.new }
     ensures short { IfOk result (λ header. is_short header.backing_filename ≡ true) }
 {
     let unknown_len = base.header_length as usize - FIXED_BYTES;
     let unknown_header_fields = read_bytes(alloc, image, FIXED_BYTES as u64, unknown_len)?;
     let backing_filename = read_backing_filename(alloc, image, &v2)?;
     let extensions = read_header_extensions(alloc, image, &v2, &base)?;
-    check_extensions(&base, &extensions)?;
+    check_extensions(&base, &unknown_header_fields, &extensions, accepted)?;
     Ok(Header {
         alloc,
         v2,

@@ -12,7 +12,7 @@ use Rattle.qcow2_base.specs.declared.fault.Fault.TheVariants.{BadEdit, NoMemory}
 use Rattle.qcow2_check.specs.Failures.{RefusesAs, ReportsFailures}
 use Rattle.qcow2_check.specs.L1Length.{short_l1_refusal}
 use Rattle.qcow2_edits.specs.Edits.{cluster_numbers}
-use Rattle.qcow2_metadata.specs.Header.{HeaderRecord, uses_external_data}
+use Rattle.qcow2_metadata.specs.Header.{HeaderRecord, any_compression, uses_external_data}
 use Rattle.qcow2_metadata.specs.Header.BitmapCount.{consistent_bitmaps}
 use Rattle.qcow2_metadata.specs.Results.{IsFromOutside}
 use Rattle.qcow2_apply.specs.Apply.{EditsDisk}
@@ -178,4 +178,5 @@ EndsApply form edits header run = RunsOut run ⊎ ((done : Result ChangedCluster
 abbrev pub apply_facts : ApplyForm → List DiskEdit → CommandFacts
 apply_facts form edits = record (plain_facts (λ O header run. EndsApply form edits header run)) {
   changes_image = makes_edits form;
+  accepts = any_compression;
 }

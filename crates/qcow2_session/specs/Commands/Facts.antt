@@ -1,7 +1,8 @@
 -- What is said of a command beside the words that ask for it?
 use Rattle.std.specs.Prelude.{ℕ, Bool, false, Option, None}
 use Rattle.qcow2_base.specs.declared.fault.Fault.{Fault}
-use Rattle.qcow2_metadata.specs.Header.{HeaderRecord}
+use Rattle.qcow2_metadata.specs.Header.{HeaderRecord, no_feature}
+use Rattle.qcow2_metadata.specs.declared.header.features.AcceptedFeatures.{AcceptedFeatures}
 use Rattle.qcow2_session.specs.Commands.Printing.{Run}
 use Rattle.qcow2_check.specs.declared.verdict.Verdict.{Verdict}
 
@@ -11,6 +12,8 @@ pub record CommandFacts : Type 1 where
   pub changes_image : Bool
   -- whether it loads the header as one who writes to the image
   pub loads_to_write : Bool
+  -- the incompatible features with which it accepts an image, beside the external data file
+  pub accepts : AcceptedFeatures
   -- whether it may print before a fault other than that of a failed storage
   pub prints_before_faults : Bool
   -- whether its runs have verdicts; else all is fine unless they fail
@@ -24,11 +27,13 @@ pub record CommandFacts : Type 1 where
   -- how a run of it ends with a header: what it printed, its verdict or why it was refused, and what it changed
   pub Ends : {O : Type 0} → HeaderRecord → Run Verdict O → Type 0
 
--- the facts of a plain command: it only reads its image, by the header, and prints at its end. Others say what differs
+-- the facts of a plain command: it only reads its image, by the header, which has no feature, and prints at its end. Others
+-- say what differs
 abbrev pub plain_facts : ((O : Type 0) → HeaderRecord → Run Verdict O → Type 0) → CommandFacts
 plain_facts Ends = record {
   changes_image = false;
   loads_to_write = false;
+  accepts = no_feature;
   prints_before_faults = false;
   has_verdict = false;
   reads_all_tables = false;

@@ -11,7 +11,7 @@ use Rattle.qcow2_layout.specs.Parts.{part_at, taken_end}
 use Rattle.qcow2_layout.specs.declared.parts.Part.{Part}
 use Rattle.qcow2_layout.specs.declared.parts.Part.TheVariants as part
 use Rattle.qcow2_layout.specs.declared.parts.Run.{Run}
-use Rattle.qcow2_metadata.specs.Header.{HeaderRecord}
+use Rattle.qcow2_metadata.specs.Header.{HeaderRecord, each_feature}
 use Rattle.qcow2_metadata.specs.Results.{IsFromOutside}
 use Rattle.qcow2_session.specs.Commands.Facts.{CommandFacts, plain_facts}
 use Rattle.qcow2_session.specs.Commands.Printing.{IsOutputFault, IsReadFault, OutputGets, OutputGetsPart, Run as Printed}
@@ -92,6 +92,7 @@ is_printed_in_turn Svg = false
 -- the facts of the command `layout`
 abbrev pub layout_facts : LayoutForm → CommandFacts
 layout_facts form = record (plain_facts (λ O header run. PrintsLayout form run header × ReadsFor (IsErrOf run.answer Storage) run.old run.new)) {
+  accepts = each_feature;
   prints_before_faults = is_printed_in_turn form;
   reads_all_tables = true;
 }

@@ -4,7 +4,7 @@ use Rattle.std.specs.Fmt.{decimal}
 use Rattle.qcow2_base.specs.Storage.{Image, OnImage, ReadsFor}
 use Rattle.qcow2_base.specs.declared.fault.Fault.{Fault}
 use Rattle.qcow2_base.specs.declared.fault.Fault.TheVariants.{Storage}
-use Rattle.qcow2_metadata.specs.Header.{HeaderRecord, geometry_of}
+use Rattle.qcow2_metadata.specs.Header.{HeaderRecord, each_feature, geometry_of}
 use Rattle.qcow2_metadata.specs.Results.{result_map}
 use Rattle.qcow2_image.specs.Extents.{AreExtents, AreExtentsBefore, Contents, ExtentsState, contents_for, contents_of}
 use Rattle.qcow2_check.specs.NamedTables.{loaded_l1_table}
@@ -126,6 +126,7 @@ pub record PrintsExtents {A O : Type 0} (run : Run A O) (format : ExtentFormat) 
 abbrev pub map_facts : ExtentFormat → CommandFacts
 map_facts format = record (plain_facts (λ O header run.
     PrintsExtents run format (disk_of header) × ReadsFor (IsErrOf run.answer Storage) run.old run.new)) {
+      accepts = each_feature;
       prints_before_faults = true;
       reads_all_tables = true;
     }

@@ -5,7 +5,7 @@ use Rattle.qcow2_base.specs.Storage.{Image}
 use Rattle.qcow2_base.specs.declared.fault.Fault.{Fault}
 use Rattle.qcow2_base.specs.declared.types.HostCluster.{HostCluster}
 use Rattle.qcow2_check.specs.Counters.{counter_of, placed_reftable}
-use Rattle.qcow2_metadata.specs.Header.{HeaderRecord}
+use Rattle.qcow2_metadata.specs.Header.{HeaderRecord, each_feature}
 use Rattle.qcow2_metadata.specs.Results.{result_map}
 use Rattle.qcow2_session.specs.Commands.Facts.{CommandFacts, plain_facts}
 use Rattle.qcow2_session.specs.Commands.Printing.{Prints}
@@ -45,4 +45,4 @@ counter_lines header clusters image = result_map (flat_map counted_cluster_line)
 
 -- the facts of the command `refcount` of clusters
 abbrev pub refcount_facts : List HostCluster → CommandFacts
-refcount_facts clusters = plain_facts (λ O header run. Prints run (counter_lines header clusters))
+refcount_facts clusters = record (plain_facts (λ O header run. Prints run (counter_lines header clusters))) { accepts = each_feature }

@@ -5,7 +5,7 @@ use Rattle.qcow2_base.specs.Storage.{StorageState}
 use Rattle.qcow2_base.specs.declared.fault.Fault.{Fault}
 use Rattle.qcow2_base.specs.declared.fault.Fault.TheVariants.{NoMemory, Storage}
 use Rattle.qcow2_metadata.specs.Header.{HeaderRecord, geometry, geometry_of}
-use Rattle.qcow2_metadata.specs.Header.Open.{Loads}
+use Rattle.qcow2_metadata.specs.Header.Open.{LoadsAccepted}
 use Rattle.qcow2_metadata.specs.Results.{result_map}
 use Rattle.qcow2_session.specs.Commands.Facts.{CommandFacts}
 use Rattle.qcow2_session.specs.Commands.Printing.{PrintsLast, Run}
@@ -21,12 +21,13 @@ abbrev pub IsNewHeader : ℕ → Result HeaderRecord Fault → Type 0
 IsNewHeader cb found = MatchResult found
     (λ header. geometry_of header ≡ geometry cb false) (λ fault. fault ≡ NoMemory)
 
--- a command found its header: a new one of the cluster bits that its words say, or else that of the image, which was loaded
+-- a command found its header: a new one of the cluster bits that its words say, or else that of the
+-- image, which was loaded with the features that it accepts
 abbrev pub FindsHeader : CommandFacts → Result HeaderRecord Fault → StorageState → StorageState → Type 0
 FindsHeader facts found old new = by_words facts.cluster_bits
   where
     by_words : Option ℕ → Type 0
-    by_words None = Loads facts.loads_to_write found old new
+    by_words None = LoadsAccepted facts.accepts facts.loads_to_write found old new
     by_words (Some cb) = IsNewHeader cb found × (new ≡ old)
 
 -- a header is one that a command can work with: where its words say cluster bits, a new one of these

@@ -12,7 +12,7 @@ use Rattle.qcow2_check.specs.Walk.{tables_list}
 use Rattle.qcow2_check.specs.declared.uses.Use.{Use}
 use Rattle.qcow2_check.specs.declared.uses.UseKind.{UseKind}
 use Rattle.qcow2_check.specs.declared.uses.UseKind.TheVariants as kind
-use Rattle.qcow2_metadata.specs.Header.{HeaderRecord}
+use Rattle.qcow2_metadata.specs.Header.{HeaderRecord, each_feature}
 use Rattle.qcow2_metadata.specs.Results.{and_then, result_map}
 use Rattle.qcow2_metadata.specs.Table.{l2_entries}
 use Rattle.qcow2_session.specs.Commands.Facts.{CommandFacts, plain_facts}
@@ -113,4 +113,4 @@ tables_lines header image = result_map (flat_map table_line) (image_rows header 
 
 -- the facts of the command `tables`
 abbrev pub tables_facts : CommandFacts
-tables_facts = plain_facts (λ O header run. Prints run (tables_lines header))
+tables_facts = record (plain_facts (λ O header run. Prints run (tables_lines header))) { accepts = each_feature }

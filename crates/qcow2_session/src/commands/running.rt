@@ -278,6 +278,11 @@ fn find_header<S: Storage>(alloc: Global, image: &mut S, command: &Command) -> R
 {
     match command {
         Command::L2 { cluster_bits, .. } => new_header(alloc, cluster_bits.get()),
-        _ => Header::load(alloc, image, command.loads_to_write()),
+        _ => Header::load_accepting(
+            alloc,
+            image,
+            command.loads_to_write(),
+            command.accepted_features(),
+        ),
     }
 }

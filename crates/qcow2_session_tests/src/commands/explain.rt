@@ -27,6 +27,16 @@ struct Row {
 const OF_COMMANDS: &[Row] = rows! { Row:
     { fault: Fault::VersionNeeded,
         before: &[(0, VERSION_2)], lines: "in IMAGE: byte 4: version is 2\n" },
+    { fault: Fault::Incompatible(0),
+        before: counted!((72, 1)), lines: "in IMAGE: byte 72: incompatible_features is 0x1\n" },
+    { fault: Fault::Incompatible(0),
+        before: counted!((72, 2)), lines: "in IMAGE: byte 72: incompatible_features is 0x2\n" },
+    // zstd without its feature
+    { fault: Fault::Incompatible(0), before: counted!((96, 0x0000_0004_0000_0070), (104, 1 << 56)),
+        lines: "in IMAGE: byte 72: incompatible_features is 0x0\n" },
+    // a command that accepts the mark finds the entry
+    { fault: Fault::EntryReserved, before: counted!((72, 3), (1048, 0x2)),
+        lines: "in IMAGE: guest offset 0x600, L2 entry at 0x418: 0000000000000002\n" },
     { fault: Fault::ExternalData,
         before: &[EXTERNAL], lines: "in IMAGE: byte 72: incompatible_features is 0x4\n" },
 };

@@ -51,12 +51,12 @@ const HEADERS: &[Refused] = rows! {
     Refused { name: "a backing name that is no text",
         changes: counted! { (8, 3), (16, 0x0000_0001_0000_0009) }, fault: Fault::BackingNameText,
         place: "in IMAGE: byte 8: backing_file_offset is 0x3\nin IMAGE: byte 16: backing_file_size is 1\n" },
-    Refused { name: "an image that was left dirty", changes: counted! { (72, 1) },
-        fault: Fault::Incompatible(1),
-        place: "in IMAGE: byte 72: incompatible_features is 0x1\n" },
-    Refused { name: "an image that is corrupt", changes: counted! { (72, 2) },
-        fault: Fault::Incompatible(2),
-        place: "in IMAGE: byte 72: incompatible_features is 0x2\n" },
+    Refused { name: "entries of 16 bytes", changes: counted! { (72, 0x10) },
+        fault: Fault::Incompatible(0x10),
+        place: "in IMAGE: byte 72: incompatible_features is 0x10\n" },
+    Refused { name: "a feature that nobody knows", changes: counted! { (72, 1 << 63) },
+        fault: Fault::Incompatible(1 << 63),
+        place: "in IMAGE: byte 72: incompatible_features is 0x8000000000000000\n" },
 };
 
 // Refused header extensions.

@@ -3,7 +3,7 @@ use Rattle.std.proofs.lemmas.Result.{err_from_is_err_and}
 use Rattle.qcow2_metadata.proofs.WritableLemmas.{writable-same}
 use Rattle.qcow2_metadata.specs.Header.Open.{SaysSame, opened_text}
 use Rattle.qcow2_check.specs.Uses.{ImageTables, image_tables}
-use Rattle.qcow2_repair.proofs.HeaderLemmas.{blocks-said, found-fault, geometry-said, kept-written, l1-place-said, l1-table-written, makes-writable, pass-fault-said, repairable-l1, repairable-written, reports-later, text-fits}
+use Rattle.qcow2_repair.proofs.HeaderLemmas.{blocks-said, found-fault, geometry-said, kept-written, l1-place-said, l1-table-written, makes-writable, pass-fault-said, repairable-l1, repairable-written, reports-later, reports-none, reports-write, text-fits}
 use Rattle.qcow2_repair.proofs.RepairLemmas.{counts-still}
 use Rattle.qcow2_repair.specs.Repair.{MakesWritable, tables_in}
 use Rattle.qcow2_repair.specs.Refusals.{repairable_tables}
@@ -72,6 +72,8 @@ returns-in_err-l1_table g c =
 
 pub returns-in_err-header : goal.returns-in_err-header
 returns-in_err-header g c =
+    let read = c.in_ok-l1_table.ensures.reads.storage in
+    let written = c.in_err-header.ensures.writable.storage in
     let exit = err_from_is_err_and c.from_residual-in_err-header.result c.from_residual-in_err-header.ensures.1 in
     let before = (g.S.Storage.state c.args.image.now).byte_at in
     let bytes : (g.S.Storage.state c.repairable_tables.new.image).byte_at ≡ before = search rules in
@@ -83,7 +85,7 @@ returns-in_err-header g c =
           rw (exit.1, exit.2) (inl (record { whole = rw bytes at c.in_err-header.ensures.writable.storage.refused; torn = inr (found, outside) }));
       refused = search rules;
       faults = search rules;
-      storage = search rules;
+      storage = rw (exit.1, exit.2) (reports-write _ _ _ _ _ _ _ read written);
     }
 
 pub returns-in_err-repair_written : goal.returns-in_err-repair_written
@@ -103,9 +105,9 @@ returns-in_err-repair_written g c =
       refused = rw (exit.1, exit.2) (λ told. inl (c.in_err-repair_written.ensures.fault.1 (rw later told)));
       faults = rw (exit.1, exit.2) (pass-fault-said c.args.header c.in_ok-header.header _ (writable-same c.args.header c.in_ok-header.header c.in_ok-header.ensures.writable.exact)
           c.in_err-repair_written.ensures.fault.0);
-      storage = rw (exit.1, exit.2) (reports-later c.in_ok-l1_table.l1_table c.in_ok-header.header c.args.header c.in_err-repair_written.field-0.0 (Some 0) (length (opened_text true (Ok c.args.header)))
+      storage = rw (exit.1, exit.2) (reports-later _ c.in_ok-header.header c.args.header c.in_err-repair_written.field-0.0 (Some 0) (length (opened_text true (Ok c.args.header)))
           (g.S.Storage.state c.args.image.now) (g.S.Storage.state c.repairable_tables.new.image) (g.S.Storage.state c.into_writable.new.image)
-          (g.S.Storage.state c.repair_written.new.image) (search rules) (search rules) (search rules));
+          (g.S.Storage.state c.repair_written.new.image) c.in_ok-l1_table.ensures.reads.storage c.in_ok-header.ensures.writable.storage c.in_err-repair_written.ensures.storage);
     }
 
 pub returns : goal.returns
@@ -123,5 +125,5 @@ returns g c =
           (tables, mid, c.in_ok-l1_table.ensures.reads.exact told, makes, c.in_ok-repair_written.ensures.repairs (rw later told));
       refused = search rules;
       faults = search rules;
-      storage = search rules;
+      storage = reports-none _ _ _ _ _ _ _ _ _ c.in_ok-l1_table.ensures.reads.storage c.in_ok-header.ensures.writable.storage c.in_ok-repair_written.ensures.storage;
     }

@@ -8,8 +8,9 @@ use Rattle.qcow2_summary.specs.ImageEnd.{image_end}
 use Rattle.qcow2_check.specs.L1Length.{guest_clusters}
 use Rattle.qcow2_check.specs.Totals.{corruptions_in, totals_on}
 use Rattle.qcow2_check.specs.Uses.{ImageTables}
-use Rattle.qcow2_metadata.specs.Header.{HeaderRecord, geometry_of}
+use Rattle.qcow2_metadata.specs.Header.{HeaderRecord, geometry_of, has_feature}
 use Rattle.qcow2_metadata.specs.Results.{result_map}
+use Rattle.qcow2_metadata.specs.declared.header.features.IncompatibleFeatures.TheVariants.{Corrupt, Dirty}
 use Rattle.qcow2_session.specs.declared.commands.check.account.Account.{Account}
 
 -- the account of an image with these tables
@@ -19,6 +20,8 @@ account_of tables image = record {
   corruptions = corruptions_in tables.header (totals_on tables image);
   image_end = image_end tables image;
   guest_clusters = guest_clusters tables.header;
+  is_dirty = has_feature Dirty tables.header.base;
+  is_corrupt = has_feature Corrupt tables.header.base;
   entries = entry_counts (geometry_of tables.header) image tables.l1;
 }
 

@@ -1,5 +1,5 @@
 -- What does a check print in JSON?
-use Rattle.std.specs.Prelude.{ℕ, ◌&&◌, ◌==◌, nat_le, nat_lt, ◌/◌, ◌%◌, true, if◌then◌else◌, List, [], ◌∷◌, ◌++◌, flat_map, Result, codes}
+use Rattle.std.specs.Prelude.{ℕ, Bool, ◌&&◌, ◌==◌, nat_le, nat_lt, ◌/◌, ◌%◌, true, if◌then◌else◌, List, [], ◌∷◌, ◌++◌, flat_map, Result, codes}
 use Rattle.std.specs.Char.Escape.{encode_utf16}
 use Rattle.std.specs.Fmt.{decimal, digit_glyph}
 use Rattle.std.specs.Str.{chars}
@@ -32,6 +32,10 @@ abbrev pub number_line : List ℕ → ℕ → List ℕ
 number_line name number = if number == 0 then []
     else codes "    \"" ++ name ++ codes "\": " ++ decimal number ++ codes ",\n"
 
+-- the line of a mark, which is left out where it isn't set
+abbrev pub mark_line : List ℕ → Bool → List ℕ
+mark_line name is_set = if is_set then codes "    \"" ++ name ++ codes "\": true,\n" else []
+
 -- the line of the name of the image's file
 abbrev pub file_line : List ℕ → List ℕ
 file_line name = codes "    \"filename\": \"" ++ escaped_text name ++ codes "\",\n"
@@ -51,6 +55,7 @@ object_text name account = codes "{\n" ++ number_line (codes "image-end-offset")
     ++ number_line (codes "shared") account.totals.shared
     ++ number_line (codes "false-flags") account.totals.false_flags
     ++ number_line (codes "late-flags") account.totals.late_flags
+    ++ mark_line (codes "dirty") account.is_dirty ++ mark_line (codes "corrupt") account.is_corrupt
     ++ number_line (codes "allocated-clusters") account.entries.allocated
     ++ file_line name ++ last_lines account.entries.fragmented
 

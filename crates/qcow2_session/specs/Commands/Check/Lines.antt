@@ -3,11 +3,12 @@ use Rattle.std.specs.Prelude.{ℕ, if◌then◌else◌, List, [], ◌++◌, Opti
 use Rattle.std.specs.Fmt.{decimal}
 use Rattle.qcow2_check.specs.Findings.{is_leaked, is_missing}
 use Rattle.qcow2_check.specs.L1Length.{is_l1_short, needed_l1_entries}
-use Rattle.qcow2_check.specs.Totals.{verdict_of}
+use Rattle.qcow2_check.specs.Totals.{verdict_in}
 use Rattle.qcow2_check.specs.declared.flags.FlagPlace.{FlagPlace}
 use Rattle.qcow2_check.specs.declared.flags.FlagPlace.TheVariants.{L1Index, Offset}
 use Rattle.qcow2_check.specs.declared.flags.WrongFlag.{WrongFlag}
-use Rattle.qcow2_metadata.specs.Header.{HeaderRecord}
+use Rattle.qcow2_metadata.specs.Header.{HeaderRecord, has_feature}
+use Rattle.qcow2_metadata.specs.declared.header.features.IncompatibleFeatures.TheVariants.{Corrupt, Dirty}
 use Rattle.qcow2_session.specs.Lines.{offset_text}
 use Rattle.qcow2_session.specs.declared.commands.check.runs.FindingRun.{FindingRun}
 use Rattle.qcow2_check.specs.declared.totals.Totals.{Totals}
@@ -46,9 +47,9 @@ counts_line totals = codes "leaked " ++ decimal totals.leaked ++ codes " missing
     ++ codes " shared " ++ decimal totals.shared ++ codes " false " ++ decimal totals.false_flags
     ++ codes " late " ++ decimal totals.late_flags ++ codes "\n"
 
--- the last line of a check, where the L1 table is long enough
-abbrev pub totals_line : Totals → List ℕ
-totals_line totals = by_verdict (verdict_of totals)
+-- the last line of a check of an image with this header
+abbrev pub totals_line : HeaderRecord → Totals → List ℕ
+totals_line header totals = by_verdict (verdict_in header totals)
   where
     by_verdict : Verdict → List ℕ
     by_verdict Fine = codes "consistent\n"
@@ -59,6 +60,12 @@ totals_line totals = by_verdict (verdict_of totals)
 abbrev pub short_l1_line : HeaderRecord → List ℕ
 short_l1_line header = codes "short-l1 " ++ decimal header.v2.l1_size ++ codes " " ++ decimal (needed_l1_entries header) ++ codes "\n"
 
+-- the lines of what a header says: that the image is dirty, that it is corrupt, and an L1 table that is too short
+abbrev pub header_lines : HeaderRecord → List ℕ
+header_lines header = (if has_feature Dirty header.base then codes "dirty\n" else [])
+    ++ (if has_feature Corrupt header.base then codes "corrupt\n" else [])
+    ++ (if is_l1_short header then short_l1_line header else [])
+
 -- the last lines of a check of an image with this header
 abbrev pub end_lines : HeaderRecord → Totals → List ℕ
-end_lines header totals = if is_l1_short header then short_l1_line header ++ counts_line totals else totals_line totals
+end_lines header totals = header_lines header ++ totals_line header totals

@@ -11,7 +11,7 @@ ghost use Rattle.qcow2_session.specs.Commands.Check.Account.{checked_account};
 
 use qcow2_base::{ClusterCount, Fault, Storage};
 use qcow2_check::{Finding, Findings, Totals};
-use qcow2_metadata::Header;
+use qcow2_metadata::{Header, IncompatibleFeatures};
 use qcow2_summary::{EntryCounts, count_entries, end_of_image, most_clusters};
 use std::alloc::Global;
 
@@ -25,6 +25,10 @@ pub(super) struct Account {
     pub(super) image_end: u64,
     /// The number of clusters of the guest's disk.
     pub(super) guest_clusters: u64,
+    /// Whether the image is marked dirty.
+    pub(super) is_dirty: bool,
+    /// Whether the image is marked corrupt.
+    pub(super) is_corrupt: bool,
     pub(super) entries: EntryCounts,
 }
 
@@ -124,6 +128,8 @@ pub(super) fn take_account<S: Storage>(
         corruptions: totals.corruptions(header)?,
         image_end,
         guest_clusters: ClusterCount::from_byte_size(header.size(), header.cluster_bits()).0,
+        is_dirty: header.has_feature(IncompatibleFeatures::Dirty),
+        is_corrupt: header.has_feature(IncompatibleFeatures::Corrupt),
         entries,
     })
 }

@@ -3,7 +3,7 @@
 ghost use Rattle.std.specs.Prelude.{◌≡◌, ◌+◌, ◌<◌, ◌≤◌, ◌++◌, flat_map, length, true};
 ghost use Rattle.std.specs.Char.Escape.{encode_utf16};
 ghost use Rattle.std.specs.Fmt.{digit_glyph};
-ghost use Rattle.qcow2_session.specs.Commands.Check.Json.{escaped_char, escaped_text, escaped_unit, file_line, last_lines, number_line, object_text};
+ghost use Rattle.qcow2_session.specs.Commands.Check.Json.{escaped_char, escaped_text, escaped_unit, file_line, last_lines, mark_line, number_line, object_text};
 ghost use Rattle.qcow2_session.specs.Lines.Output.{Gets, GoesOn};
 
 use super::account::Account;
@@ -25,6 +25,8 @@ pub(super) fn print_object<O: Write>(file_name: &str, account: &Account, out: &m
     print_number("shared", account.totals.shared, out);
     print_number("false-flags", account.totals.false_flags, out);
     print_number("late-flags", account.totals.late_flags, out);
+    print_mark("dirty", account.is_dirty, out);
+    print_mark("corrupt", account.is_corrupt, out);
     print_number("allocated-clusters", account.entries.allocated, out);
     print_file_name(file_name, out);
     out.print(last_lines(account.entries.fragmented).as_bytes());
@@ -49,6 +51,29 @@ fn number_line(name: &str, number: u64) -> LineBuffer
         line.prepend(",\n");
         line.prepend_decimal(number);
         line.prepend("\": ");
+        line.prepend(name);
+        line.prepend("    \"");
+    }
+    line
+}
+
+// Prints the line of a mark, unless it isn't set.
+fn print_mark<O: Write>(name: &str, is_set: bool, out: &mut Output<O>)
+    requires { length name.now ≤ 100 }
+    ensures text { Gets O.contents out.old out.new (mark_line name.now is_set) }
+    ensures goes_on { GoesOn out.old out.new }
+{
+    out.print(mark_line(name, is_set).as_bytes());
+}
+
+// The line of a mark, empty if it isn't set.
+fn mark_line(name: &str, is_set: bool) -> LineBuffer
+    requires { length name.now ≤ 100 }
+    ensures { result ≡ mark_line name.now is_set }
+{
+    let mut line = LineBuffer::new();
+    if is_set {
+        line.prepend("\": true,\n");
         line.prepend(name);
         line.prepend("    \"");
     }

@@ -1,12 +1,12 @@
 //! The lines of a check: runs of findings, wrong flags, and the end.
 
 ghost use Rattle.std.specs.Prelude.{◌≡◌, ◌+◌, ◌≤◌, ◌++◌, codes, length};
-ghost use Rattle.qcow2_session.specs.Commands.Check.Lines.{counter_text, counts_line, end_lines, flag_line, place_text, run_lines, run_numbers, totals_line};
+ghost use Rattle.qcow2_session.specs.Commands.Check.Lines.{counter_text, counts_line, end_lines, flag_line, header_lines, place_text, run_lines, run_numbers, totals_line};
 
 use super::runs::FindingRun;
 use crate::lines::{LineBuffer, ToLine};
 use qcow2_check::{FlagPlace, Totals, Verdict, WrongFlag, is_l1_short, needed_l1_entries};
-use qcow2_metadata::Header;
+use qcow2_metadata::{Header, IncompatibleFeatures};
 
 /// Clusters with the same finding: a line for each kind that it is.
 impl ToLine for FindingRun {
@@ -92,23 +92,38 @@ fn prepend_place(line: &mut LineBuffer, place: FlagPlace)
 pub(super) fn end_lines(totals: &Totals, header: &Header) -> LineBuffer
     ensures { result ≡ end_lines header.now totals.now }
 {
-    if !is_l1_short(header) {
-        return totals_line(totals);
-    }
-    let mut lines = counts_line(totals);
-    lines.prepend("\n");
-    lines.prepend_decimal(needed_l1_entries(header));
-    lines.prepend(" ");
-    lines.prepend_decimal(header.l1_table_entries() as u64);
-    lines.prepend("short-l1 ");
+    let mut lines = totals_line(totals, header);
+    prepend_header_lines(&mut lines, header);
     lines
 }
 
-// The last line if the L1 table is long enough.
-fn totals_line(totals: &Totals) -> LineBuffer
-    ensures { result ≡ totals_line totals.now }
+// Puts the lines of what a header says in front of others: that the image is marked dirty or corrupt, and an
+// L1 table too short for the disk.
+fn prepend_header_lines(lines: &mut LineBuffer, header: &Header)
+    requires { length lines.old ≤ 150 }
+    ensures { lines.new ≡ header_lines header.now ++ lines.old }
 {
-    match totals.found_verdict() {
+    if is_l1_short(header) {
+        lines.prepend("\n");
+        lines.prepend_decimal(needed_l1_entries(header));
+        lines.prepend(" ");
+        lines.prepend_decimal(header.l1_table_entries() as u64);
+        lines.prepend("short-l1 ");
+    }
+    if header.has_feature(IncompatibleFeatures::Corrupt) {
+        lines.prepend("corrupt\n");
+    }
+    if header.has_feature(IncompatibleFeatures::Dirty) {
+        lines.prepend("dirty\n");
+    }
+}
+
+// The last line of a check.
+fn totals_line(totals: &Totals, header: &Header) -> LineBuffer
+    ensures text { result ≡ totals_line header.now totals.now }
+    ensures bound { length result ≤ 150 }
+{
+    match totals.verdict(header) {
         Verdict::Fine => consistent_line(),
         Verdict::Harmless => counts_line(totals),
         Verdict::Harmful => counts_line(totals),
@@ -137,7 +152,8 @@ fn counts_line(totals: &Totals) -> LineBuffer
 
 // The line for a consistent image.
 fn consistent_line() -> LineBuffer
-    ensures { result ≡ codes "consistent\n" }
+    ensures text { result ≡ codes "consistent\n" }
+    ensures bound { length result ≤ 150 }
 {
     let mut line = LineBuffer::new();
     line.prepend("consistent\n");

@@ -26,4 +26,4 @@ returns-clause-exact g c = λ told.
     let totals = found.0 ∙ ap (λ bytes. totals_on counted_tables bytes) checked.storage.bytes in
     let end = found.1 ∙ ap (λ bytes. image_end counted_tables bytes) checked.storage.bytes in
     let entries = rw (counted.bytes ∙ checked.storage.bytes) at (c.in_ok-entries.ensures.exact (counted.device.tells ∙ checked.storage.device.tells ∙ told)) in
-    account-is c.args.header.now (g.S.Storage.state c.args.image.now).byte_at counted_tables _ tables totals (search rules) end (search rules) entries
+    account-is c.args.header.now (g.S.Storage.state c.args.image.now).byte_at counted_tables _ tables totals (search rules) end (search rules) (search rules) (search rules) entries

@@ -2,7 +2,7 @@ use Rattle.std.proofs.Common.{rules, inl, inr, arith}
 use Rattle.std.proofs.lemmas.Result.{err_from_is_err_and}
 use Rattle.qcow2_metadata.proofs.OpenLemmas.{answers-first, opened-faults, opened_fault}
 use Rattle.qcow2_metadata.proofs.WritableLemmas.{writable-short}
-use Rattle.qcow2_metadata.proofs.header.Header.load.Goals as goal
+use Rattle.qcow2_metadata.proofs.header.Header.load_accepting.Goals as goal
 use Rattle.std.proofs.lemmas.Bool.Decides.{nat_tests}
 
 pub returns-in_err-header : goal.returns-in_err-header
@@ -12,7 +12,7 @@ returns-in_err-header g c =
     let read = c.in_err-header.ensures.reads in
     let fault = c.in_err-header.field-0.0 in
     rw (exit.1, exit.2) (record {
-      exact = λ told. opened_fault c.args.writable image fault (read.exact told);
+      exact = λ told. opened_fault c.args.accepted c.args.writable image fault (read.exact told);
       faults = elim read.faults [
         | inl grammar ↦ inl (inl grammar)
         | inr outside ↦ inr outside
