@@ -39,7 +39,7 @@ _qmeta() {
         case $kind in
         IMAGE) compopt -o default ;;
         COMMAND) words+=("${_qmeta_commands[@]%% *}") ;;
-        FAULT) words+=({1..41}) ;;
+        FAULT) words+=({1..42}) ;;
         EDIT) words+=(discard: zero: keep: map:) ;;
         STEP) words+=(inc: dec:) ;;
         [[:lower:]]*) words+=("$kind") ;;

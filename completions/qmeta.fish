@@ -41,7 +41,7 @@ function __qmeta_words
             case COMMAND
                 string replace -r '( [^:]*)?:' \t $__qmeta_commands
             case FAULT
-                seq 41
+                seq 42
             case EDIT
                 string split ' ' 'discard: zero: keep: map:'
             case STEP

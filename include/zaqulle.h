@@ -81,7 +81,8 @@ extern "C" {
     F(ZQ_OVERLAP, 38, "the uses of a cluster must not exclude each other, nobody knows which of them to believe") \
     F(ZQ_IN_USE, 39, "an image that is written must be used by nobody else, it is in use")                        \
     F(ZQ_SHARED, 40, "an L2 table that is edited must have no other reference")                                   \
-    F(ZQ_L1_SHORT, 41, "the L1 table must have an entry for each part of the disk, it has too few")
+    F(ZQ_L1_SHORT, 41, "the L1 table must have an entry for each part of the disk, it has too few")               \
+    F(ZQ_MARKED, 42, "an image that is changed must not be marked dirty or corrupt, it must be repaired first")
 
 enum zq_fault {
     ZQ_OK = 0,
@@ -108,6 +109,15 @@ typedef struct zq_name {
     uint32_t length;
 } zq_name;
 
+/* The incompatible features of an image, which a program must know to read it. An image has none of these or the sum
+   of several. */
+enum zq_feature {
+    ZQ_DIRTY = 1,              /* refcounts may be wrong: a program stopped before it had written all of them */
+    ZQ_CORRUPT = 2,            /* any structure may be wrong: a program has found one that is */
+    ZQ_EXTERNAL_DATA_FILE = 4, /* guest data lies in an external data file */
+    ZQ_ZSTD = 8                /* compressed data is compressed by zstd, and else by zlib */
+};
+
 /* The fields of a header. In version 2 refcount_order is 4, all features are 0, and only the backing file may have
    a name. */
 typedef struct zq_header {
@@ -120,7 +130,7 @@ typedef struct zq_header {
     uint64_t reftable_offset;       /* host offset of the refcount table; a multiple of the cluster size */
     uint32_t l1_entries;            /* number of entries in the L1 table */
     uint32_t reftable_clusters;     /* number of clusters in the refcount table */
-    uint64_t incompatible_features; /* 0, or 4 if guest data lies in an external data file */
+    uint64_t incompatible_features; /* the sum of its enum zq_feature */
     uint64_t compatible_features;
     uint64_t autoclear_features;
     uint64_t snapshots_offset;      /* host offset of the snapshot table */
@@ -302,6 +312,7 @@ typedef struct zq_edit {
  * with an fsync after each.
  *
  * Faults, in this order: ZQ_VERSION_NEEDED (27) for zeros in version 2; ZQ_CLUSTER_SIZE (3); ZQ_INCOMPATIBLE (17);
+ * ZQ_MARKED (42) if the image is marked by ZQ_DIRTY or ZQ_CORRUPT: an edit could free clusters in use;
  * ZQ_WRONG_LENGTH (31) if length isn't the cluster size; ZQ_ENTRY_RESERVED (18) or ZQ_ENTRY_UNALIGNED (19) of the
  * first invalid entry in the table; ZQ_BAD_EDIT (32) for the first edit of an unknown kind, past the table's end, or
  * to a host_offset that isn't a multiple of the cluster size, isn't below 2^56, or is 0 in an image without an
@@ -376,9 +387,10 @@ typedef struct zq_check_totals {
  * Checks an image by all its bytes, which may be mapped memory. Finds clusters whose refcount isn't their number of
  * references or whose references exclude each other, and wrong copied flags. Sets *totals. Writes the findings in the
  * order of clusters, all or as many as capacity allows, and sets *count to their number: if totals->findings is
- * greater, more were left out. Elements after them are unchanged. Past its last byte the image reads as zeros. Takes
- * memory for the header's names, the L1 table, the refcount table, a refcount block, an L2 table at a time, and the
- * reference counts of a part of the clusters.
+ * greater, more were left out. Elements after them are unchanged. Past its last byte the image reads as zeros. An
+ * image that is marked dirty or corrupt is checked too: zq_header_read tells its marks. Takes memory for the header's
+ * names, the L1 table, the refcount table, a refcount block, an L2 table at a time, and the reference counts of a part
+ * of the clusters.
  *
  * Faults, in this order: one of 1 to 17 of the header; ZQ_UNCOUNTED (37) for an image with snapshots, bitmaps or LUKS
  * encryption, whose references aren't read; one of ZQ_ENTRY_RESERVED (18) to ZQ_TABLE_PLACE (21), the first of the L1

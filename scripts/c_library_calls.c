@@ -96,7 +96,8 @@ static const struct {
     {96, 4, 7, ZQ_OK, ZQ_REFCOUNT_WIDTH}, {16, 4, UINT32_MAX, ZQ_OK, ZQ_BACKING_NAME_LONG},
     {16, 4, 5, ZQ_OK, ZQ_BACKING_NAME_PLACE}, {8, 8, UINT64_MAX, ZQ_OK, ZQ_BACKING_NAME_PLACE},
     {65532, 1, 0xff, ZQ_OK, ZQ_BACKING_NAME_TEXT}, {108, 4, UINT32_MAX, ZQ_OK, ZQ_EXTENSIONS_EXCEED},
-    {72, 8, UINT64_MAX, ZQ_OK, ZQ_INCOMPATIBLE}, {72, 8, 4, ZQ_OK, ZQ_OK},
+    {72, 8, UINT64_MAX, ZQ_OK, ZQ_INCOMPATIBLE}, {72, 8, 4, ZQ_OK, ZQ_OK}, {72, 8, 1, ZQ_OK, ZQ_OK},
+    {72, 8, 7, ZQ_OK, ZQ_OK}, {72, 8, 8, ZQ_OK, ZQ_INCOMPATIBLE}, {72, 8, 17, ZQ_OK, ZQ_INCOMPATIBLE},
 };
 
 static void check_lengths(void) {
@@ -208,8 +209,8 @@ static const struct {
     uint32_t fault;
 } made_up[] = {
     {0, 0, ZQ_CLUSTER_SIZE}, {8, 0, ZQ_CLUSTER_SIZE}, {22, 0, ZQ_CLUSTER_SIZE}, {63, 0, ZQ_CLUSTER_SIZE},
-    {64, 0, ZQ_CLUSTER_SIZE}, {UINT32_MAX, UINT64_MAX, ZQ_CLUSTER_SIZE}, {16, 1, ZQ_INCOMPATIBLE},
-    {16, 16, ZQ_INCOMPATIBLE}, {21, UINT64_MAX, ZQ_INCOMPATIBLE}, {9, 0, ZQ_OK}, {21, 4, ZQ_OK},
+    {64, 0, ZQ_CLUSTER_SIZE}, {UINT32_MAX, UINT64_MAX, ZQ_CLUSTER_SIZE}, {16, 17, ZQ_INCOMPATIBLE},
+    {16, 16, ZQ_INCOMPATIBLE}, {21, UINT64_MAX, ZQ_INCOMPATIBLE}, {9, 0, ZQ_OK}, {21, 4, ZQ_OK}, {16, 11, ZQ_OK},
 };
 
 static void check_made_up(void) {
@@ -827,6 +828,24 @@ static void check_refused_edits(void) {
     }
 }
 
+/* Edits of images with features: those of marked ones are refused, before a table of another length. */
+static void check_marked_edits(void) {
+    static const zq_edit edit = {ZQ_EDIT_ZERO, 0, 0, 0};
+    for (uint64_t features = 0; features < 32; features++) {
+        zq_header header = {3, 9, 4, 0, 0, 0, 0, 0, 0, 0, 0, 0, 0, 0, {0, 0}, {0, 0}, {0, 0}};
+        uint8_t table[512] = {0};
+        size_t freed_count, gained_count, bad;
+        header.incompatible_features = features;
+        uint32_t fault = features >= 16 ? ZQ_INCOMPATIBLE : features & 3 ? ZQ_MARKED : ZQ_OK;
+        expect("zq_l2_edit with features", features,
+               zq_l2_edit(table, 512, &header, &edit, 1, NULL, 0, &freed_count, NULL, 0, &gained_count, &bad), fault);
+        expect("entry with features", features, table[7], fault == ZQ_OK);
+        expect("zq_l2_edit of no byte with features", features,
+               zq_l2_edit(NULL, 0, &header, &edit, 1, NULL, 0, &freed_count, NULL, 0, &gained_count, &bad),
+               fault == ZQ_OK ? (uint32_t)ZQ_WRONG_LENGTH : fault);
+    }
+}
+
 /* Edits one table. After a fault prints its number, and whether anything has changed. */
 static int edit_once(void) {
     static const zq_edit edits[] = {{ZQ_EDIT_DISCARD, 0, 0, 0}, {ZQ_EDIT_MAP, 0, 1, 1536}};
@@ -900,7 +919,11 @@ static uint32_t print_check(const uint8_t *bytes, size_t length) {
     static zq_finding findings[4096];
     zq_check_totals totals;
     size_t count;
+    zq_header header;
     uint32_t fault = zq_image_check(bytes, length, findings, sizeof findings / sizeof *findings, &count, &totals);
+    if (fault == ZQ_OK) {
+        fault = zq_header_read(bytes, length, &header);
+    }
     if (fault != ZQ_OK) {
         return fault;
     }
@@ -914,7 +937,9 @@ static uint32_t print_check(const uint8_t *bytes, size_t length) {
     }
     unsigned long long leaked = totals.leaked, missing = totals.missing, shared = totals.shared;
     unsigned long long false_flags = totals.false_flags, late_flags = totals.late_flags;
-    if (totals.findings + false_flags + late_flags == 0) {
+    int is_corrupt = (header.incompatible_features & ZQ_CORRUPT) != 0;
+    printf("%s%s", header.incompatible_features & ZQ_DIRTY ? "dirty\n" : "", is_corrupt ? "corrupt\n" : "");
+    if (!is_corrupt && totals.findings + false_flags + late_flags == 0) {
         printf("consistent\n");
     } else {
         printf("leaked %llu missing %llu shared %llu false %llu late %llu\n", leaked, missing, shared, false_flags, late_flags);
@@ -1090,6 +1115,7 @@ int main(int count, char **words) {
     check_refused_settles();
     check_drawn_tables();
     check_refused_edits();
+    check_marked_edits();
     check_extents();
     check_no_parts();
     return failures != 0;

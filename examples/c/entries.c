@@ -1,6 +1,6 @@
 /* Prints the header of a qcow2 image as qmeta info does, and then its mapped guest clusters as qmeta list does, but
- * refuses a table past the file's end (fault 21). Usage: entries IMAGE. The status is 1 after a fault, and 2 if the
- * image can't be read. Build it by
+ * refuses a table past the file's end (fault 21), and accepts images that are marked or compressed by zstd. Usage:
+ * entries IMAGE. The status is 1 after a fault, and 2 if the image can't be read. Build it by
  *
  * cc -I include examples/c/entries.c crates/qcow2_ffi/out/libzaqulle.a */
 #define _POSIX_C_SOURCE 200809L
@@ -37,7 +37,7 @@ static void print_header(const uint8_t *image, const zq_header *header) {
     printf("refcount-table 0x%" PRIx64 " %" PRIu32 "\n", header->reftable_offset, header->reftable_clusters);
     print_name("backing", image, header->backing_name);
     print_name("format", image, header->backing_format);
-    printf("external %s\n", header->incompatible_features & 4 ? "yes" : "no");
+    printf("external %s\n", header->incompatible_features & ZQ_EXTERNAL_DATA_FILE ? "yes" : "no");
     print_name("data-file", image, header->data_file);
 }
 

@@ -10,9 +10,10 @@ from collections import Counter
 from itertools import groupby
 from typing import NamedTuple, Optional
 
-from .draft import put_entry, put_refcount
-from .faults import INCOMPATIBLE, L1_SHORT, OVERLAP, REFCOUNT_RANGE, TABLE_PLACE, UNCOUNTED
-from .image import COMPRESSED, COPIED, ENTRY_SIZE, GREATEST_END, LUKS, SECTOR, ZERO, Entry, Image, Refused
+from .draft import put_entry, put_features, put_refcount
+from .faults import L1_SHORT, OVERLAP, REFCOUNT_RANGE, TABLE_PLACE, UNCOUNTED
+from .image import COMPRESSED, COPIED, CORRUPT, DIRTY, ENTRY_SIZE, GREATEST_END, LUKS, SECTOR, ZERO
+from .image import Entry, Image, Refused
 
 # The kinds of lines, in the order of the last line, and those that may destroy data.
 KINDS = ("leaked", "missing", "shared", "false", "late")
@@ -22,8 +23,6 @@ HARMFUL = {"missing", "shared", "false"}
 def examine(image, to_repair):
     """Reads all parts of an image in the order of a check, and raises the fault in which that ends before any line."""
     header = image.header
-    if to_repair and (header.is_dirty or header.is_corrupt):
-        raise Refused(INCOMPATIBLE)
     if header.nb_snapshots or header.crypt_method >= LUKS:
         raise Refused(UNCOUNTED)
     if to_repair and header.is_l1_short:
@@ -119,8 +118,8 @@ class Check:
         """Adds the lines of clusters, one for clusters in a row with the same finding."""
         known = self.references.keys() | self.image.refcounts.keys()
         findings = {cluster: self.finding(cluster) for cluster in sorted(known)}
-        wrong = [c for c, (refcount, references, shared) in findings.items() if refcount != references or shared]
-        for _, run in groupby(enumerate(wrong), lambda pair: (pair[1] - pair[0], findings[pair[1]])):
+        self.wrong = [c for c, (refcount, references, shared) in findings.items() if refcount != references or shared]
+        for _, run in groupby(enumerate(self.wrong), lambda pair: (pair[1] - pair[0], findings[pair[1]])):
             clusters = [cluster for _, cluster in run]
             refcount, references, shared = findings[clusters[0]]
             is_of_kind = {"leaked": refcount > references, "missing": refcount < references, "shared": shared}
@@ -275,7 +274,15 @@ class Check:
                 put_refcount(stored, block, header, cluster % header.block_refcounts, self.references[cluster])
         for flag in self.flags():
             self.put_flag(stored, flag)
+        self.clear_marks(stored)
         return stored
+
+    def clear_marks(self, stored):
+        """Clears the marks in the header, if it has any and blocks count each wrong cluster, so that none stays wrong."""
+        header = self.header
+        if (header.is_dirty or header.is_corrupt) and None not in map(self.image.block_of, self.wrong):
+            features = header.incompatible_features & ~(DIRTY | CORRUPT)
+            put_features(stored, features)
 
     def put_flag(self, stored, flag):
         """Makes a flag right: set if its cluster has one reference, or lies in an external data file.

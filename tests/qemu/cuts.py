@@ -10,7 +10,7 @@ from itertools import zip_longest
 from typing import NamedTuple
 
 from .edits import Drawer
-from .image import AUTOCLEAR_LENGTH, AUTOCLEAR_OFFSET, SECTOR, Image
+from .image import AUTOCLEAR_OFFSET, FEATURES_LENGTH, SECTOR, Image
 from .kinds import Maker
 from .tools import ToolFailed, qemu_check_counts, run
 from .trials import Trial
@@ -133,7 +133,7 @@ def wrong_places(parts, image):
         elsewhere = [write.offset for write in part if write.offset // size * size not in offsets]
         if elsewhere:
             yield f"{name}: a write to {elsewhere[0]:#x}"
-    field = (AUTOCLEAR_OFFSET, AUTOCLEAR_LENGTH)
+    field = (AUTOCLEAR_OFFSET, FEATURES_LENGTH)
     if any((write.offset, len(write.bytes)) != field for part in parts[:1] for write in part):
         yield "what is written to the header isn't the field of autoclear features"
 

@@ -9,8 +9,8 @@ from array import array
 from collections import Counter
 from typing import NamedTuple
 
-from .image import COMPRESSED, COPIED, CORRUPT, DATA_FILE, DIRTY, ENTRY_SIZE, EXTERNAL_DATA, SECTOR, ZERO
-from .image import Geometry, Header
+from .image import COMPRESSED, COPIED, CORRUPT, DATA_FILE, DIRTY, ENTRY_SIZE, EXTERNAL_DATA, FEATURES_LENGTH
+from .image import INCOMPATIBLE_OFFSET, SECTOR, ZERO, Geometry, Header
 
 # The bytes that are written at once, or become a hole.
 PAGE = 4096
@@ -53,6 +53,11 @@ def put_entry(stored, offset, index, bits):
     """Puts the entry of this index into the table that begins at an offset of stored bytes."""
     place = offset + ENTRY_SIZE * index
     stored[place : place + ENTRY_SIZE] = bits.to_bytes(ENTRY_SIZE, "big")
+
+
+def put_features(stored, features):
+    """Puts the incompatible features into the header with which stored bytes begin."""
+    stored[INCOMPATIBLE_OFFSET : INCOMPATIBLE_OFFSET + FEATURES_LENGTH] = features.to_bytes(FEATURES_LENGTH, "big")
 
 
 def write_entry(path, offset, index, bits):

@@ -1,6 +1,5 @@
 """The numbers of the faults that tests expect of `qmeta`. `qmeta explain` explains each."""
 
-INCOMPATIBLE = 17
 ENTRY_RESERVED = 18
 ENTRY_UNALIGNED = 19
 TABLE_PLACE = 21

@@ -38,8 +38,9 @@ MORE_FIELDS = struct.Struct(">QQQII")
 MORE_NAMES = ("incompatible_features", "compatible_features", "autoclear_features", "refcount_order")
 HEADER_LENGTH = FIELDS.size + MORE_FIELDS.size
 
-# The place of the autoclear features in the header, after two other sets of features, and the bytes of a set.
-AUTOCLEAR_OFFSET, AUTOCLEAR_LENGTH = FIELDS.size + 2 * 8, 8
+# The bytes of a set of features, and the places of the incompatible and of the autoclear ones in the header.
+FEATURES_LENGTH = 8
+INCOMPATIBLE_OFFSET, AUTOCLEAR_OFFSET = FIELDS.size, FIELDS.size + 2 * FEATURES_LENGTH
 
 # The incompatible features of an image that is marked dirty or corrupt.
 DIRTY, CORRUPT = 1 << 0, 1 << 1

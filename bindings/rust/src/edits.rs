@@ -88,11 +88,12 @@ impl Error for RefusedEdits {}
 ///
 /// # Errors
 ///
-/// [`Fault::VersionNeeded`] (27) for zeros in an image of version 2; then [`Fault::WrongLength`]
-/// (31) if the number of bytes isn't the cluster size; then [`Fault::EntryReserved`] (18) or
-/// [`Fault::EntryUnaligned`] (19) of the first invalid entry; then [`Fault::BadEdit`] (32) of the
-/// first edit past the table's end, or to a host offset that isn't a multiple of the cluster size
-/// or that an entry can't hold; [`Fault::NoMemory`] (35).
+/// [`Fault::VersionNeeded`] (27) for zeros in an image of version 2; then [`Fault::Marked`] (42) if
+/// the image is marked dirty or corrupt; then [`Fault::WrongLength`] (31) if the number of bytes
+/// isn't the cluster size; then [`Fault::EntryReserved`] (18) or [`Fault::EntryUnaligned`] (19) of
+/// the first invalid entry; then [`Fault::BadEdit`] (32) of the first edit past the table's end, or
+/// to a host offset that isn't a multiple of the cluster size or that an entry can't hold;
+/// [`Fault::NoMemory`] (35).
 ///
 /// After an error `bytes` is unchanged.
 ///

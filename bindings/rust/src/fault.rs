@@ -108,6 +108,7 @@ faults! {
     InUse, 39, "an image that is written must be used by nobody else, it is in use";
     Shared, 40, "an L2 table that is edited must have no other reference";
     L1Short, 41, "the L1 table must have an entry for each part of the disk, it has too few";
+    Marked, 42, "an image that is changed must not be marked dirty or corrupt, it must be repaired first";
 }
 
 impl Error for Fault {}

@@ -123,10 +123,35 @@ impl Header {
         self.0.reftable_clusters
     }
 
+    /// Whether the image is marked dirty: refcounts may be wrong, as a program stopped before it had
+    /// written all of them. [`edit_l2_table`](crate::edit_l2_table) refuses such an image.
+    #[must_use]
+    pub fn is_dirty(&self) -> bool {
+        self.has_feature(1)
+    }
+
+    /// Whether the image is marked corrupt: any structure may be wrong, as a program has found one that
+    /// is. [`edit_l2_table`](crate::edit_l2_table) refuses such an image.
+    #[must_use]
+    pub fn is_corrupt(&self) -> bool {
+        self.has_feature(2)
+    }
+
     /// Whether guest data lies in an external data file.
     #[must_use]
     pub fn has_external_data_file(&self) -> bool {
-        self.0.incompatible_features != 0
+        self.has_feature(4)
+    }
+
+    /// Whether compressed data is compressed by zstd, and not by zlib.
+    #[must_use]
+    pub fn is_zstd(&self) -> bool {
+        self.has_feature(8)
+    }
+
+    /// Whether the image has the incompatible feature of this mask.
+    fn has_feature(&self, mask: u64) -> bool {
+        self.0.incompatible_features & mask != 0
     }
 
     /// The features that a program may ignore, as bits.

@@ -130,15 +130,32 @@ fn a_field_that_breaks_a_rule_is_refused_by_its_fault() {
 }
 
 #[test]
-fn faults_have_the_numbers_from_1_to_41() {
+fn features_are_told() {
+    for features in 0..8 {
+        let mut bytes = image(&[]);
+        put(&mut bytes, 72, 8, features);
+        let header = read_header(&bytes).unwrap();
+        let told = [
+            header.is_dirty(),
+            header.is_corrupt(),
+            header.has_external_data_file(),
+            header.is_zstd(),
+        ];
+        let expected = [0, 1, 2, 3].map(|bit| features >> bit & 1 == 1);
+        assert_eq!(told, expected, "features {features}");
+    }
+}
+
+#[test]
+fn faults_have_the_numbers_from_1_to_42() {
     let numbers: Vec<_> = Fault::NAMED.iter().map(|fault| fault.number()).collect();
-    assert_eq!(numbers, (1..=41).collect::<Vec<_>>());
+    assert_eq!(numbers, (1..=42).collect::<Vec<_>>());
     for fault in Fault::NAMED {
         assert_eq!(Fault::from_number(fault.number()), Some(*fault));
     }
     assert_eq!(Fault::from_number(0), None);
-    assert_eq!(Fault::from_number(42), Some(Fault::Unknown(42)));
-    assert_eq!(Fault::Unknown(42).number(), 42);
+    assert_eq!(Fault::from_number(43), Some(Fault::Unknown(43)));
+    assert_eq!(Fault::Unknown(43).number(), 43);
 }
 
 #[test]

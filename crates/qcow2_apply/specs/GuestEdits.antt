@@ -3,12 +3,13 @@ use Rattle.std.specs.Prelude.{ℕ, Bool, true, false, not, if◌then◌else◌, 
 use Rattle.std.specs.List.{list_any, position, range_with_len}
 use Rattle.std.specs.Option.{option_or}
 use Rattle.qcow2_base.specs.declared.fault.Fault.{Fault}
-use Rattle.qcow2_base.specs.declared.fault.Fault.TheVariants.{BadEdit, ExternalData, L1Short, VersionNeeded}
+use Rattle.qcow2_base.specs.declared.fault.Fault.TheVariants.{BadEdit, ExternalData, L1Short, Marked, VersionNeeded}
 use Rattle.qcow2_base.specs.declared.types.GuestOffset.{GuestOffset}
-use Rattle.qcow2_check.specs.L1Length.{guest_clusters, is_l1_short}
+use Rattle.qcow2_check.specs.L1Length.{guest_clusters, is_l1_short, short_l1_refusal}
 use Rattle.qcow2_edits.specs.declared.edits.Edit.{Edit}
 use Rattle.qcow2_edits.specs.declared.edits.Edit.TheVariants as entry
 use Rattle.qcow2_metadata.specs.Header.{HeaderRecord, geometry_of, uses_external_data}
+use Rattle.qcow2_metadata.specs.Header.Marks.{is_marked}
 use Rattle.qcow2_metadata.specs.Table.{l2_entries}
 use Rattle.qcow2_metadata.specs.Table.L2Guards.{is_mappable}
 use Rattle.qcow2_apply.specs.declared.guest_edits.GuestEdit.{GuestEdit}
@@ -94,10 +95,15 @@ has_clusters_in cb l1_index edit = nat_lt (table_start cb l1_index edit) (table_
 abbrev pub ends_after : ℕ → ℕ → GuestEdit → Bool
 ends_after cb tables edit = nat_lt (tables * l2_entries cb) (cluster_end cb edit)
 
+-- why the disk of an image with this header must not be edited: it is marked dirty or corrupt, or its L1 table is too short
+abbrev pub disk_refusal : HeaderRecord → Option Fault
+disk_refusal header = if is_marked header then Some Marked else short_l1_refusal header
+
 -- why edits can't be made of any disk of this header
 abbrev pub edits_refusal : HeaderRecord → List GuestEdit → Option Fault
 edits_refusal header edits =
-    if is_l1_short header then Some L1Short
+    if is_marked header then Some Marked
+    else if is_l1_short header then Some L1Short
     else if uses_external_data header then Some ExternalData
     else option_or (option_map BadEdit (first_unfit_of header edits))
     (if header.v2.version == 2 && list_any is_zeros edits then Some VersionNeeded else None)

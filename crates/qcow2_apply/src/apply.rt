@@ -107,6 +107,7 @@ impl Plan {
 ///
 /// Checks everything before the first write. The refusals are, in this order:
 ///
+/// - 42 if the image is marked dirty or corrupt;
 /// - 41 if the L1 table is too short for the disk;
 /// - 36 with an external data file;
 /// - 32 and the position of the first edit that doesn't fit the disk;

@@ -6,7 +6,7 @@ ghost use Rattle.qcow2_metadata.specs.Results.{unless_refused};
 ghost use Rattle.qcow2_metadata.specs.Table.{l2_entries};
 ghost use Rattle.qcow2_base.specs.Types.{IsClusterBits};
 ghost use Rattle.qcow2_apply.specs.EditsByTable.{positions_in};
-ghost use Rattle.qcow2_apply.specs.GuestEdits.{cluster_end, edit_at, edits_by, edits_in, edits_refusal, ends_after, first_cluster, first_unfit_of, guest_edit_fits, guest_length, guest_offset, has_clusters_in, is_discard, is_mappable_by, is_zeros, table_end, table_start};
+ghost use Rattle.qcow2_apply.specs.GuestEdits.{cluster_end, disk_refusal, edit_at, edits_by, edits_in, edits_refusal, ends_after, first_cluster, first_unfit_of, guest_edit_fits, guest_length, guest_offset, has_clusters_in, is_discard, is_mappable_by, is_zeros, table_end, table_start};
 ghost use Rattle.qcow2_apply.specs.Tables.{IsLeftBy, IsL2TableOf};
 
 use qcow2_base::{Fault, GuestCluster, GuestOffset, HostCluster, MAX_OFFSET};
@@ -251,13 +251,23 @@ pub(crate) fn first_in(edits: &[GuestEdit], header: &Header, index: u32) -> Opti
     )
 }
 
-/// Refuses edits that no image with this header allows: all of them if its L1 table is too short for the disk
-/// (fault 41) or it has an external data file (36), then one that doesn't fit the disk (32), then zeros in
-/// version 2 (27).
+/// Refuses an image whose disk must not be edited, since that could free clusters in use: one that is marked
+/// dirty or corrupt (fault 42), then one whose L1 table is too short for the disk (41).
+pub fn refuse_uneditable(header: &Header) -> Result<(), Fault>
+    ensures { result ≡ unless_refused (disk_refusal header.now) (Ok tt) }
+{
+    if header.is_marked() {
+        return Err(Fault::Marked);
+    }
+    refuse_short_l1(header)
+}
+
+/// Refuses edits that no image with this header allows: all of them if it is refused by `refuse_uneditable`
+/// or has an external data file (36), then one that doesn't fit the disk (32), then zeros in version 2 (27).
 pub(crate) fn check_edits(header: &Header, edits: &[GuestEdit]) -> Result<(), Fault>
     ensures { result ≡ unless_refused (edits_refusal header.now edits.now) (Ok tt) }
 {
-    refuse_short_l1(header)?;
+    refuse_uneditable(header)?;
     if header.external_data_file() {
         return Err(Fault::ExternalData);
     }

@@ -23,6 +23,6 @@ pub use changed_clusters::{ChangedClusters, KeptCluster};
 pub use changes::Changes;
 pub use counter_tables::CounterTables;
 pub use edits_by_table::EditsByTable;
-pub use guest_edits::{GuestEdit, edits_in, first_unfit};
+pub use guest_edits::{GuestEdit, edits_in, first_unfit, refuse_uneditable};
 pub use plan::Plan;
 pub use tables::edit_tables;

@@ -2,7 +2,7 @@
 
 use qcow2_apply::{GuestEdit, apply_edits};
 use qcow2_base::{Device, Fault, MemStorage, Storage};
-use qcow2_metadata::Header;
+use qcow2_metadata::{AcceptedFeatures, Header};
 use qcow2_summary::is_consistent;
 use qcow2_testing::sample_image::{LARGER, NEXT_TABLE, REFTABLE, TO_7, TWO_TABLES, sample_image};
 use qcow2_testing::{COPIED, Numbers, counted, put_all};
@@ -65,9 +65,9 @@ pub(crate) use kept;
 pub(crate) use map;
 pub(crate) use zeros;
 
-/// Loads the header of an image.
+/// Loads the header of an image, which may be marked.
 pub(crate) fn header_of<S: Storage>(alloc: Global, image: &mut S) -> Result<Header, Fault> {
-    Header::load(alloc, image, false)
+    Header::load_accepting(alloc, image, false, AcceptedFeatures::each())
 }
 
 /// Makes edits of a disk: the call without its contract.

@@ -32,7 +32,7 @@ in_turn faults count number fault turn is = grind (arith, nat_tests, is, turned 
 -- a fault that a number names has it
 pub has_number : (number : ℕ) (found : Option Fault) → found ≡ fault_of number → IfSome found (λ fault. fault_number fault ≡ number)
 has_number number None named = tt
-has_number number (Some fault) named = in_turn ALL 41 number fault refl (sym named)
+has_number number (Some fault) named = in_turn ALL 42 number fault refl (sym named)
 
 named_by_number : (fault : Fault) → IsSome (fault_of (fault_number fault))
 named_by_number fault = grind arith

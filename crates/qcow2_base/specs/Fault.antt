@@ -1,7 +1,7 @@
 -- Which number, kind and words has each fault?
 use Rattle.std.specs.Prelude.{ℕ, ◌-◌, ◌==◌, if◌then◌else◌, List, Option, None, codes, slice_get}
 use Rattle.qcow2_base.specs.declared.fault.Fault.{Fault}
-use Rattle.qcow2_base.specs.declared.fault.Fault.TheVariants.{NotQcow2, Version, ClusterSize, HeaderShort, HeaderBig, L1Unaligned, ReftableUnaligned, RefcountWidth, BackingNameLong, BackingNamePlace, BackingNameText, ExtensionsExceed, ExtensionText, FeatureNameCut, FormatConflict, DataFileConflict, Incompatible, EntryReserved, EntryUnaligned, TableTooBig, TablePlace, NoOffset, NotPlaced, HeaderTooLong, NameTooLong, FieldChanged, VersionNeeded, CannotGrow, TooMany, CounterRange, WrongLength, BadEdit, BadStep, Storage, NoMemory, ExternalData, Uncounted, Overlap, InUse, Shared, L1Short}
+use Rattle.qcow2_base.specs.declared.fault.Fault.TheVariants.{NotQcow2, Version, ClusterSize, HeaderShort, HeaderBig, L1Unaligned, ReftableUnaligned, RefcountWidth, BackingNameLong, BackingNamePlace, BackingNameText, ExtensionsExceed, ExtensionText, FeatureNameCut, FormatConflict, DataFileConflict, Incompatible, EntryReserved, EntryUnaligned, TableTooBig, TablePlace, NoOffset, NotPlaced, HeaderTooLong, NameTooLong, FieldChanged, VersionNeeded, CannotGrow, TooMany, CounterRange, WrongLength, BadEdit, BadStep, Storage, NoMemory, ExternalData, Uncounted, Overlap, InUse, Shared, L1Short, Marked}
 use Rattle.qcow2_base.specs.declared.fault.TheConstants.Fault.{ALL}
 use Rattle.qcow2_base.specs.declared.fault.Field.{Field}
 use Rattle.qcow2_base.specs.declared.fault.Field.TheVariants as field
@@ -53,6 +53,7 @@ fault_number Overlap = 38
 fault_number InUse = 39
 fault_number (Shared position) = 40
 fault_number L1Short = 41
+fault_number Marked = 42
 
 -- the fault of a number, if there is one: at its place in the list of all
 abbrev pub fault_of : ℕ → Option Fault
@@ -72,6 +73,7 @@ fault_kind HeaderTooLong = kind.Other
 fault_kind (FieldChanged field) = kind.Other
 fault_kind CannotGrow = kind.Other
 fault_kind (Shared position) = kind.Other
+fault_kind Marked = kind.Other
 fault_kind VersionNeeded = kind.Unsupported
 fault_kind (Uncounted part) = kind.Unsupported
 fault_kind Storage = kind.Storage

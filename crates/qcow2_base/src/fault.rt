@@ -168,6 +168,8 @@ pub enum Fault {
     Shared(usize),
     #[error("the L1 table must have an entry for each part of the disk, it has too few")]
     L1Short,
+    #[error("an image that is changed must not be marked dirty or corrupt, it must be repaired first")]
+    Marked,
 }
 
 /// The kind of a fault, for callers that treat faults by kind.
@@ -191,7 +193,7 @@ impl Fault {
     ghost use Rattle.qcow2_base.specs.Fault.{fault_kind, fault_number, fault_of};
 
     /// One fault of each number, in order. A fault with a value has 0, or the first value of its type.
-    pub const ALL: [Fault; 41] = [
+    pub const ALL: [Fault; 42] = [
         Fault::NotQcow2,
         Fault::Version,
         Fault::ClusterSize,
@@ -233,6 +235,7 @@ impl Fault {
         Fault::InUse,
         Fault::Shared(0),
         Fault::L1Short,
+        Fault::Marked,
     ];
 
     /// Returns the fault of a number as `Fault::ALL` has it, or `None` for any other number.
@@ -247,7 +250,7 @@ impl Fault {
         Fault::ALL.get(number as usize - 1).copied()
     }
 
-    /// The fault's fixed number, from 1 to 41, which `qmeta` prints.
+    /// The fault's fixed number, from 1 to 42, which `qmeta` prints.
     pub fn number(&self) -> u32
         ensures { result ≡ fault_number self.now }
     {
@@ -303,6 +306,7 @@ impl Fault {
             Fault::InUse => 39,
             Fault::Shared(_) => 40,
             Fault::L1Short => 41,
+            Fault::Marked => 42,
             _ => 0,
         }
     }
@@ -323,7 +327,8 @@ impl Fault {
             | Fault::HeaderTooLong
             | Fault::FieldChanged(_)
             | Fault::CannotGrow
-            | Fault::Shared(_) => FaultKind::Other,
+            | Fault::Shared(_)
+            | Fault::Marked => FaultKind::Other,
             Fault::VersionNeeded | Fault::Uncounted(_) => FaultKind::Unsupported,
             Fault::Storage | Fault::InUse => FaultKind::Storage,
             Fault::NoMemory => FaultKind::NoMemory,

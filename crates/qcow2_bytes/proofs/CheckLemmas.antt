@@ -1,5 +1,5 @@
 use Rattle.std.proofs.lemmas.Bool.Decides.{nat_tests}
-use Rattle.std.proofs.Common.{◌≡◌, ◌≢◌, ◌⊎◌, ◌≤◌, ◌*◌, ℕ, ◌+◌, false, List, [], ◌∷◌, ◌++◌, drop, length, map, set, take, IsTrue, Option, Some, None, option_map, Result, Ok, Err, inl, inr, refl, sym, ap, subst, ◌∙◌, append-nil, append_assoc, arith}
+use Rattle.std.proofs.Common.{◌≡◌, ◌≢◌, ◌⊎◌, ◌≤◌, ◌*◌, ℕ, ◌+◌, List, [], ◌∷◌, ◌++◌, drop, length, map, set, take, IsTrue, Option, Some, None, option_map, Result, Ok, Err, inl, inr, refl, sym, ap, subst, ◌∙◌, append-nil, append_assoc, arith}
 use Rattle.std.proofs.lemmas.List.{length-map, length_push, map-append}
 use Rattle.qcow2_base.specs.Fault.{fault_number}
 use Rattle.qcow2_base.specs.Storage.{Image, OnImage, OnlyReads, StorageState}
@@ -15,14 +15,12 @@ use Rattle.qcow2_check.specs.Uses.{ImageTables}
 use Rattle.qcow2_check.specs.declared.findings.Finding.{Finding}
 use Rattle.qcow2_check.specs.declared.totals.Totals.{Totals}
 use Rattle.qcow2_metadata.specs.Header.{HeaderRecord, uncounted_part}
-use Rattle.qcow2_metadata.specs.Header.Grammar.{header_of}
-use Rattle.qcow2_metadata.specs.Header.Open.{header_after_load}
 use Rattle.qcow2_metadata.specs.Results.{IsFromOutside}
 use Rattle.qcow2_metadata.specs.Table.{IsTableFault, Kind, l1_kind, l2_entries, table_layout}
+use Rattle.qcow2_bytes.specs.Header.{any_header_of}
 use Rattle.qcow2_bytes.specs.Images.Check.{AreFirstPut, IsCheckRefusal, PutsFindings, finding_fields, tables_at}
 use Rattle.qcow2_bytes.specs.declared.images.check.CheckTotals.{CheckTotals}
 use Rattle.qcow2_bytes.specs.declared.images.check.FindingFields.{FindingFields}
-use Rattle.qcow2_bytes.proofs.HeaderLemmas.{read_only}
 
 -- one item more is put, if there is room
 pub first-put-more : {T : Type 0} (items old new : List T) (item : T) → AreFirstPut items old new
@@ -67,13 +65,12 @@ all-counted reader image counted left count totals old new begun none are same p
 
 -- what is found after the header was read is what is found of the image
 pub checked-after : (header : HeaderRecord) (before after : List FindingFields) (answer : Result CheckTotals Fault) (old new : StorageState)
-    → (IsTrue old.tells → header_after_load false (header_of old.byte_at) ≡ Ok header)
+    → (IsTrue old.tells → any_header_of old.byte_at ≡ Ok header)
     → OnlyReads {T = HeaderRecord} (Ok header) old new
     → OnImage new (λ bytes. PutsFindings (checked_tables header bytes) bytes before after answer)
     → OnImage old (λ bytes. PutsFindings (tables_at bytes) bytes before after answer)
 checked-after header before after answer old new loaded reads checks = λ told.
-    let read = sym (read_only (header_of old.byte_at)) ∙ loaded told in
-    rw read (rw reads.bytes at (checks (reads.device.tells ∙ told)))
+    rw (loaded told) (rw reads.bytes at (checks (reads.device.tells ∙ told)))
 
 -- a refusal that no storage makes
 pub kept-refusal : (tables : Result ImageTables Fault) (image : Image) (before after : List FindingFields) (fault result : Fault)

@@ -1,20 +1,22 @@
-use Rattle.std.proofs.Common.{◌≡◌, ◌≢◌, ◌⊎◌, inl, inr, ℕ, ◌<◌, ◌≤◌, ◌==◌, false, List, Option, Some, None, if◌then◌else◌, length, Result, Ok, Err, IsOkAnd, refl, ap, sym, ◌∙◌, ◌^◌, arith}
+use Rattle.std.proofs.Common.{◌≡◌, ◌≢◌, ◌⊎◌, inl, inr, ℕ, ◌<◌, ◌≤◌, ◌==◌, true, false, List, Option, Some, None, if◌then◌else◌, length, Result, Ok, Err, IsOkAnd, refl, ap, sym, ◌∙◌, ◌^◌, arith}
 use Rattle.std.proofs.lemmas.Bool.Decides.{nat_tests}
 use Rattle.std.proofs.Math.Pow.{pow_mono}
 use Rattle.qcow2_base.specs.OnDiskStruct.{HoldsLayout, v2_header}
-use Rattle.qcow2_base.specs.Storage.{Image, image_from, image_of}
+use Rattle.qcow2_base.specs.Storage.{Image, StorageState, image_from, image_of}
 use Rattle.qcow2_base.specs.Types.{IsClusterBits}
 use Rattle.qcow2_base.specs.declared.fault.Fault.{Fault}
-use Rattle.qcow2_base.specs.declared.fault.Fault.TheVariants.{NoMemory, Storage}
+use Rattle.qcow2_base.specs.declared.fault.Fault.TheVariants.{HeaderTooLong, NoMemory, Storage}
 use Rattle.qcow2_base.specs.declared.on_disk_struct.v2_header.V2Header.{V2Header}
 use Rattle.qcow2_base.specs.declared.on_disk_struct.v3_header_base.V3HeaderBase.{V3HeaderBase}
-use Rattle.qcow2_metadata.specs.Header.{HeaderRecord, first_by}
-use Rattle.qcow2_metadata.specs.Header.Grammar.{HasExtensions, IsBackingName, IsBase, IsHeader, header_of, v2_at}
+use Rattle.qcow2_metadata.specs.Header.{HeaderRecord, each_feature, first_by}
+use Rattle.qcow2_metadata.specs.Header.Grammar.{HasExtensions, IsAcceptedHeader, IsBackingName, IsBase, IsHeaderFault, accepted_header, v2_at}
 use Rattle.qcow2_metadata.specs.Header.Extensions.{name_in}
 use Rattle.qcow2_metadata.specs.declared.header.extensions.HeaderExtensionType.TheVariants as types
-use Rattle.qcow2_metadata.specs.Header.Open.{header_after_load}
-use Rattle.qcow2_metadata.proofs.GrammarLemmas.{IsBase-base_at, header_of-is, holds-v2_at}
-use Rattle.qcow2_bytes.specs.Header.{IsNameAt, SaysHeader, first_cluster_size, header_in, no_name}
+use Rattle.qcow2_metadata.specs.Header.Open.{LoadsAccepted, header_after_load}
+use Rattle.qcow2_metadata.specs.Results.{IsFromOutside, Reads}
+use Rattle.qcow2_metadata.specs.declared.header.features.AcceptedFeatures.{AcceptedFeatures}
+use Rattle.qcow2_metadata.proofs.GrammarLemmas.{IsBase-base_at, accepted_header-is, holds-v2_at}
+use Rattle.qcow2_bytes.specs.Header.{IsNameAt, SaysHeader, any_header_of, first_cluster_size, header_in, no_name}
 use Rattle.qcow2_bytes.specs.declared.header.HeaderFields.{HeaderFields}
 use Rattle.qcow2_bytes.specs.declared.header.NameRange.{NameRange}
 
@@ -26,12 +28,29 @@ image-begin bytes = λ i o. same o i
     same o = grind (arith, nat_tests)
 
 -- who only reads a header gets what was read
-pub read_only : (read : Result HeaderRecord Fault) → header_after_load false read ≡ read
+read_only : (read : Result HeaderRecord Fault) → header_after_load false read ≡ read
 read_only (Ok header) = refl
 read_only (Err fault) = refl
 
-pub loaded-begin : (bytes : List ℕ) → header_after_load false (header_of (image_from 0 bytes)) ≡ header_of (image_of bytes)
-loaded-begin bytes = read_only (header_of (image_from 0 bytes)) ∙ ap header_of (image-begin bytes)
+read-fault : (fault : Fault) → (IsHeaderFault fault ⊎ ((false ≡ true) × (fault ≡ HeaderTooLong))) ⊎ IsFromOutside fault
+    → IsHeaderFault fault ⊎ IsFromOutside fault
+read-fault fault (inr outside) = inr outside
+read-fault fault (inl (inl is)) = inl is
+read-fault fault (inl (inr written)) = cc
+
+pub loaded-read : (accepted : AcceptedFeatures) (answer : Result HeaderRecord Fault) (old new : StorageState)
+    → LoadsAccepted accepted false answer old new
+    → Reads (λ header. header) answer (accepted_header accepted) IsHeaderFault old new
+loaded-read accepted (Ok header) old new loads = record {
+  exact = λ told. rw (read_only (accepted_header accepted old.byte_at)) at (loads.exact told);
+  faults = tt;
+  storage = loads.storage.reads refl;
+}
+loaded-read accepted (Err fault) old new loads = record {
+  exact = λ told. rw (read_only (accepted_header accepted old.byte_at)) at (loads.exact told);
+  faults = read-fault fault loads.faults;
+  storage = loads.storage.reads refl;
+}
 
 -- a refusal that no storage makes
 pub kept-fault : {V : Type 0} (expected : Result V Fault) (fault result : Fault)
@@ -49,12 +68,12 @@ cluster_sizes cb bits = (pow_mono bits.0, pow_mono bits.1)
 
 -- the first part of an image's header is the one that its bytes hold
 pub same_v2 : (image : Image) (v2 : V2Header) (header : HeaderRecord) → HoldsLayout image (v2_header v2)
-    → IsHeader image header → v2 ≡ header.v2
+    → IsAcceptedHeader each_feature image header → v2 ≡ header.v2
 same_v2 image v2 header held is = sym (holds-v2_at image v2 held) ∙ holds-v2_at image header.v2 is.v2
 
 -- and so is the second
 pub same_base : (image : Image) (version : ℕ) (base : V3HeaderBase) (header : HeaderRecord) → version ≡ header.v2.version
-    → IsBase image version base → IsHeader image header → base ≡ header.base
+    → IsBase image version base → IsAcceptedHeader each_feature image header → base ≡ header.base
 same_base image version base header same read is =
     let mine : IsBase image header.v2.version base = rw same at read in
     sym (IsBase-base_at image header.v2.version base is.version mine) ∙ IsBase-base_at image header.v2.version header.base is.version is.base
@@ -95,7 +114,8 @@ fields_by v2 base backing_name backing_format data_file = record {
 -- they are the header's fields
 pub fields-say : (image : Image) (header : HeaderRecord) (size : ℕ) (v2 : V2Header) (base : V3HeaderBase)
     (backing_name backing_format data_file : NameRange)
-    → v2 ≡ header.v2 → base ≡ header.base → size ≡ 2 ^ header.v2.cluster_bits → IsHeader image header
+    → v2 ≡ header.v2 → base ≡ header.base → size ≡ 2 ^ header.v2.cluster_bits
+    → IsAcceptedHeader each_feature image header
     → (v2.backing_file_offset < 2 ^ 32 → backing_name ≡ (if v2.backing_file_offset == 0 then no_name
     else record { offset = v2.backing_file_offset; length = v2.backing_file_size }))
     → (size ≡ 2 ^ v2.cluster_bits → (v2.version ≡ 2) ⊎ (v2.version ≡ 3) → HasExtensions image v2 base header.extensions
@@ -114,12 +134,12 @@ fields-say image header size v2 base backing_name backing_format data_file same_
 
 -- what is read of the whole first cluster of an image, by the header that the image has
 pub reads-header : (bytes : List ℕ) (size : ℕ) (header : HeaderRecord) (fields : HeaderFields)
-    → first_cluster_size bytes ≡ Ok size → size ≤ length bytes → header_of (image_of bytes) ≡ Ok header
-    → ((header : HeaderRecord) → IsHeader (image_of bytes) header → size ≡ 2 ^ header.v2.cluster_bits
+    → first_cluster_size bytes ≡ Ok size → size ≤ length bytes → any_header_of (image_of bytes) ≡ Ok header
+    → ((header : HeaderRecord) → IsAcceptedHeader each_feature (image_of bytes) header → size ≡ 2 ^ header.v2.cluster_bits
     → SaysHeader (image_of bytes) header fields)
     → IsOkAnd (header_in bytes) (λ header. SaysHeader (image_of bytes) header fields)
 reads-header bytes size header fields is_size whole read says =
-    let is = header_of-is (image_of bytes) header read in
+    let is = accepted_header-is each_feature (image_of bytes) header read in
     let v2 = holds-v2_at (image_of bytes) header.v2 is.v2 in
     let bits : size ≡ 2 ^ header.v2.cluster_bits =
     size_by bytes size is_size ∙ ap (λ (v2 : V2Header). 2 ^ v2.cluster_bits) v2 in
@@ -130,5 +150,5 @@ reads-header bytes size header fields is_size whole read says =
     size_by bytes size is = grind (arith, nat_tests)
 
     read_by : (bytes : List ℕ) (size : ℕ) (header : HeaderRecord) → first_cluster_size bytes ≡ Ok size
-        → size ≤ length bytes → header_of (image_of bytes) ≡ Ok header → header_in bytes ≡ Ok header
+        → size ≤ length bytes → any_header_of (image_of bytes) ≡ Ok header → header_in bytes ≡ Ok header
     read_by bytes size header is whole read = rw is (grind (arith, nat_tests, read))

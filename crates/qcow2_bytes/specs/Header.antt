@@ -1,5 +1,5 @@
 -- What do the bytes of a first cluster say of an image, and where in them do names lie?
-use Rattle.std.specs.Prelude.{◌≡◌, ℕ, ◌==◌, ◌+◌, ◌-◌, ◌*◌, ◌^◌, ◌<◌, ◌≤◌, ◌&&◌, nat_le, List, [], ◌∷◌, length, Option, Some, None, Result, Ok, IsOkAnd, MatchResult, Err, ◌⊎◌}
+use Rattle.std.specs.Prelude.{◌≡◌, ℕ, ◌==◌, ◌+◌, ◌*◌, ◌/◌, ◌^◌, ◌<◌, ◌≤◌, ◌&&◌, nat_le, List, [], ◌∷◌, length, Option, Some, None, Result, Ok, IsOkAnd, MatchResult, Err, ◌⊎◌}
 use Rattle.qcow2_base.specs.Bits.{field}
 use Rattle.qcow2_base.specs.Format.{external_data_file_bit}
 use Rattle.qcow2_base.specs.Storage.{Image, image_of}
@@ -7,9 +7,9 @@ use Rattle.qcow2_base.specs.declared.fault.Fault.{Fault}
 use Rattle.qcow2_base.specs.declared.fault.Fault.TheVariants.{ClusterSize, Incompatible, NoMemory, WrongLength}
 use Rattle.qcow2_metadata.specs.Results.{after_conditions, and_then}
 use Rattle.qcow2_metadata.specs.Range.{bytes_at}
-use Rattle.qcow2_metadata.specs.Header.{Geometry, HeaderRecord, first_by, geometry}
+use Rattle.qcow2_metadata.specs.Header.{Geometry, HeaderRecord, each_feature, first_by, geometry}
 use Rattle.qcow2_metadata.specs.Header.Extensions.{name_in}
-use Rattle.qcow2_metadata.specs.Header.Grammar.{header_of, v2_at, version_conditions}
+use Rattle.qcow2_metadata.specs.Header.Grammar.{accepted_header, v2_at, version_conditions}
 use Rattle.qcow2_metadata.specs.declared.header.extensions.HeaderExtensionType.TheVariants as kind
 use Rattle.qcow2_bytes.specs.declared.header.HeaderFields.{HeaderFields}
 use Rattle.qcow2_bytes.specs.declared.header.NameRange.{NameRange}
@@ -20,10 +20,14 @@ first_cluster_size bytes =
     let v2 = v2_at (image_of bytes) in
     after_conditions ((nat_le 104 (length bytes), WrongLength) ∷ version_conditions v2) (λ _. Ok (2 ^ v2.cluster_bits))
 
+-- the header of an image, each feature of which is accepted that can be
+abbrev pub any_header_of : Image → Result HeaderRecord Fault
+any_header_of = accepted_header each_feature
+
 -- the header of an image that begins with these bytes, which must be its whole first cluster
 abbrev pub header_in : List ℕ → Result HeaderRecord Fault
 header_in bytes = and_then (first_cluster_size bytes) (λ size.
-    after_conditions ((nat_le size (length bytes), WrongLength) ∷ []) (λ _. header_of (image_of bytes)))
+    after_conditions ((nat_le size (length bytes), WrongLength) ∷ []) (λ _. any_header_of (image_of bytes)))
 
 -- no name, which has neither an offset nor a length
 abbrev pub no_name : NameRange
@@ -71,10 +75,9 @@ ReadsHeader bytes answer =
     MatchResult answer (λ fields. IsOkAnd (header_in bytes) (λ header. SaysHeader (image_of bytes) header fields))
     (λ fault. (fault ≡ NoMemory) ⊎ (header_in bytes ≡ Err fault))
 
--- the incompatible features of these fields but that of an external data file
+-- the incompatible features of these fields from bit 4 on, which no accepted header has
 abbrev pub unknown_features : HeaderFields → ℕ
-unknown_features fields = fields.incompatible_features
-    - 2 ^ external_data_file_bit * field fields.incompatible_features external_data_file_bit 1
+unknown_features fields = fields.incompatible_features / 2 ^ 4 * 2 ^ 4
 
 -- what the meaning of an entry depends on, of fields that somebody may have made up: their cluster bits, and whether guest data
 -- lies in an external data file; or why no header has them

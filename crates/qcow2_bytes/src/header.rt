@@ -4,15 +4,16 @@ ghost use Rattle.std.specs.Prelude.{◌≡◌, ◌≢◌, ◌⊎◌, ◌^◌, �
 ghost use Rattle.qcow2_base.specs.Storage.{image_of};
 ghost use Rattle.qcow2_base.specs.Types.{IsClusterBits};
 ghost use Rattle.qcow2_base.specs.declared.fault.Fault.TheVariants.{NoMemory, Storage as StorageFailed, WrongLength};
-ghost use Rattle.qcow2_metadata.specs.Header.{HeaderRecord, geometry};
-ghost use Rattle.qcow2_metadata.specs.Header.Grammar.{IsBase, IsHeader, IsHeaderFault, header_of, version_conditions};
-ghost use Rattle.qcow2_metadata.specs.Results.{Computes, after_conditions, result_map};
-ghost use Rattle.qcow2_bytes.specs.Header.{ReadsHeader, SaysHeader, first_cluster_size};
+ghost use Rattle.qcow2_metadata.specs.Header.{HeaderRecord, each_feature, geometry};
+ghost use Rattle.qcow2_metadata.specs.Header.Grammar.{IsAcceptedHeader, IsBase, IsHeaderFault, version_conditions};
+ghost use Rattle.qcow2_metadata.specs.Results.{Computes, Reads, after_conditions, result_map};
+ghost use Rattle.qcow2_bytes.specs.Header.{ReadsHeader, SaysHeader, any_header_of, first_cluster_size};
 
 use qcow2_base::{
-    EXTERNAL_DATA_FILE_BIT, Fault, MAGIC, SliceStorage, V2Header, V3HeaderBase, field, read_be,
+    EXTERNAL_DATA_FILE_BIT, Fault, MAGIC, SliceStorage, Storage, V2Header, V3HeaderBase, field,
+    read_be,
 };
-use qcow2_metadata::{Header, HeaderExtensionType};
+use qcow2_metadata::{AcceptedFeatures, Header, HeaderExtensionType};
 use std::alloc::Global;
 
 mod names;
@@ -21,6 +22,9 @@ use names::{backing_name, extension_name};
 
 /// The number of bytes in the fixed parts of a header.
 const FIXED_BYTES: usize = 104;
+
+/// The first bit of the incompatible features that no accepted header has.
+const UNKNOWN_BITS: u32 = 4;
 
 /// The place of a name in the bytes of a first cluster. Both numbers are 0 if there is no name.
 #[repr(C)]
@@ -54,7 +58,8 @@ pub struct HeaderFields {
     pub l1_entries: u32,
     /// The number of clusters in the refcount table.
     pub reftable_clusters: u32,
-    /// Bit 2 says that guest data lies in an external data file.
+    /// Bit 0 says that refcounts may be wrong, bit 1 that any structure may be. Bit 2 says that guest data
+    /// lies in an external data file, bit 3 that compressed data is compressed by zstd.
     pub incompatible_features: u64,
     /// Features that a program may ignore.
     pub compatible_features: u64,
@@ -111,7 +116,7 @@ fn check_version(v2: &V2Header) -> Result<(), Fault>
 }
 
 /// Decodes the header of an image from the bytes of its first cluster. More bytes may follow. Accepts exactly
-/// what `Header::load` accepts in an image that begins with these bytes.
+/// what `Header::load_accepting` accepts with each feature, in an image that begins with these bytes.
 ///
 /// Refuses what `header_bytes` refuses, then fewer bytes than the cluster has (31), then a header by the
 /// first condition of the format that it breaks (1 to 17).
@@ -130,14 +135,22 @@ pub fn read_header(alloc: Global, bytes: &[u8]) -> Result<HeaderFields, Fault>
 
 // Loads the header of an image that has these bytes.
 fn load_header(alloc: Global, bytes: &[u8]) -> Result<Header, Fault>
-    ensures exact { Computes (λ header. header) result (header_of (image_of bytes.now)) }
+    ensures exact { Computes (λ header. header) result (any_header_of (image_of bytes.now)) }
     ensures faults { IfErr result (λ fault. (fault ≡ NoMemory) ⊎ IsHeaderFault fault) }
 {
     let mut image = SliceStorage::new(bytes, 0);
-    match Header::load(alloc, &mut image, false) {
+    match load_any_header(alloc, &mut image) {
         Ok(header) => Ok(header),
         Err(fault) => Err(without_storage_fault(fault)),
     }
+}
+
+// Loads the header of an image to read it, and accepts each feature that can be.
+pub(crate) fn load_any_header<S: Storage>(alloc: Global, image: &mut S) -> Result<Header, Fault>
+    ensures { Reads (λ header. header) result any_header_of IsHeaderFault
+        (S.state image.old) (S.state image.new) }
+{
+    Header::load_accepting(alloc, image, false, AcceptedFeatures::each())
 }
 
 // Turns fault 34 into 35. No read of a slice fails, but the contracts of calls over any storage don't say so.
@@ -154,7 +167,7 @@ pub(crate) fn without_storage_fault(fault: Fault) -> Fault
 fn fields_of(bytes: &[u8], cluster_size: usize) -> HeaderFields
     requires whole { cluster_size ≤ length bytes.now }
     requires size { (512 ≤ cluster_size) × (cluster_size ≤ 2 ^ 21) }
-    ensures { (header : HeaderRecord) → IsHeader (image_of bytes.now) header →
+    ensures { (header : HeaderRecord) → IsAcceptedHeader each_feature (image_of bytes.now) header →
         cluster_size ≡ 2 ^ header.v2.cluster_bits → SaysHeader (image_of bytes.now) header result }
 {
     let v2: V2Header = read_be(bytes, 0);
@@ -217,11 +230,11 @@ impl HeaderFields {
         if !(9..=21).contains(&self.cluster_bits) {
             return Err(Fault::ClusterSize);
         }
-        let external = field(self.incompatible_features, EXTERNAL_DATA_FILE_BIT, 1);
-        let unknown = self.incompatible_features - (external << EXTERNAL_DATA_FILE_BIT);
+        let unknown = self.incompatible_features >> UNKNOWN_BITS << UNKNOWN_BITS;
         if unknown != 0 {
             return Err(Fault::Incompatible(unknown));
         }
+        let external = field(self.incompatible_features, EXTERNAL_DATA_FILE_BIT, 1);
         Ok((self.cluster_bits, external == 1))
     }
 }

@@ -10,7 +10,7 @@ ghost use Rattle.qcow2_bytes.specs.Entries.{mapping_fields};
 ghost use Rattle.qcow2_bytes.specs.Images.{fields_at, fields_in};
 
 use crate::EntryMapping;
-use crate::header::without_storage_fault;
+use crate::header::{load_any_header, without_storage_fault};
 use qcow2_base::{Fault, GuestOffset, SliceStorage, Storage};
 use qcow2_image::lookup_with_header;
 use qcow2_metadata::{Header, L2Mapping};
@@ -47,7 +47,7 @@ fn lookup_fields<S: Storage>(
     ensures { Reads (λ mapping. mapping) result (fields_at guest_offset) IsImageFault
         (S.state image.old) (S.state image.new) }
 {
-    let header = Header::load(alloc, image, false)?;
+    let header = load_any_header(alloc, image)?;
     fields_with_header(alloc, image, &header, guest_offset)
 }
 

@@ -4,8 +4,8 @@ use crate::calls::image_check;
 use qcow2_base::Fault;
 use qcow2_bytes::{CheckTotals, FindingFields};
 use qcow2_testing::damages::{Damage, FoundCluster, Refused, damages, refused_images};
-use qcow2_testing::sample_image::sample_image;
-use qcow2_testing::{each, same};
+use qcow2_testing::sample_image::{TO_6, sample_image};
+use qcow2_testing::{counted, each, same};
 use std::alloc::Global;
 use std::test::Fail;
 
@@ -93,4 +93,18 @@ fn no_bytes_are_no_image(rt: HostRuntime) -> Result<(), Fail> {
     let mut list = [OLD; 2];
     let found = image_check(rt.alloc(), &[], &mut list);
     same((found, list), (Err(Fault::NotQcow2), [OLD; 2]), "no bytes")
+}
+
+// The marks stand in the header's features. They change no finding.
+#[test]
+fn a_marked_image_is_checked(rt: HostRuntime) -> Result<(), Fail> {
+    let image = sample_image(rt.alloc(), 9, counted! { (72, 3), TO_6 })?;
+    let mut list = [OLD; 1];
+    let totals = image_check(rt.alloc(), image.bytes(), &mut list)?;
+    let found = list.first().map(|finding| (finding.kinds, finding.cluster));
+    same(
+        (totals.findings, totals.leaked, found),
+        (1, 1, Some((1, 6))),
+        "a leak",
+    )
 }

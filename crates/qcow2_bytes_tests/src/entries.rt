@@ -117,8 +117,8 @@ fn l2_entries_say_what_their_guest_clusters_read_as(rt: HostRuntime) -> Result<(
 const MADE_UP: &[(u32, u64, Fault)] = rows! {
     (0, 0, Fault::ClusterSize), (8, 0, Fault::ClusterSize), (22, 0, Fault::ClusterSize),
     (63, 0, Fault::ClusterSize), (u32::MAX, 1, Fault::ClusterSize),
-    (16, 1, Fault::Incompatible(1)), (16, 0x14, Fault::Incompatible(16)),
-    (21, u64::MAX, Fault::Incompatible(u64::MAX - 4)),
+    (16, 0x1f, Fault::Incompatible(16)), (16, 0x14, Fault::Incompatible(16)),
+    (21, u64::MAX, Fault::Incompatible(u64::MAX - 15)),
 };
 
 fn check_made_up(_alloc: Global, row: (u32, u64, Fault)) -> Result<(), Fail> {

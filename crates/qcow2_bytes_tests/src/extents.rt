@@ -72,6 +72,8 @@ const ROWS: &[Row] = rows! {
     Row { room: 7, first: 7, ..ROW },
     Row { room: 1, first: 1, ..ROW },
     Row { room: 0, ..ROW },
+    // marked dirty and corrupt
+    Row { changes: &[(72, 3)], first: 8, ..ROW },
     // from the middle of an extent
     Row { from: 0x700, room: 1, others: &[(1, 0x700, 0x300, 0xb00)], ..ROW },
     Row { from: 0xa01, room: 1, others: &[(2, 0xa01, 0x1ff, 0)], ..ROW },
@@ -102,6 +104,7 @@ const FAULTS: &[Row] = rows! {
     Row { changes: &[(0x208, 1 << 56)], from: u64::MAX, fault: Some(Fault::EntryReserved), ..ROW },
     Row { changes: &[(32, 0xffff_ffff)], fault: Some(Fault::TableTooBig), ..ROW },
     Row { changes: &[(16, 8)], fault: Some(Fault::ClusterSize), ..ROW },
+    Row { changes: &[(72, 16)], fault: Some(Fault::Incompatible(16)), ..ROW },
     Row { len: 0, fault: Some(Fault::NotQcow2), ..ROW },
 };
 

@@ -53,14 +53,16 @@ fn the_first_bytes_say_how_long_the_cluster_is(rt: HostRuntime) -> Result<(), Fa
 // The number of passed bytes, changes of them, and the fault that refuses them.
 type Refused = (usize, Numbers<'static>, Fault);
 
-const REFUSED: [Refused; 8] = [
+const REFUSED: [Refused; 9] = [
     (511, &[], Fault::WrongLength),
     (600, &[(16, 10)], Fault::WrongLength),
     // a cluster that isn't whole is refused first, unless its size is invalid
     (511, &[(96, 0x7_0000_0068)], Fault::WrongLength),
     (511, &[(16, 8)], Fault::ClusterSize),
     (512, &[(96, 0x7_0000_0068)], Fault::RefcountWidth),
-    (512, &[(72, 5)], Fault::Incompatible(1)),
+    (512, &[(72, 0x17)], Fault::Incompatible(16)),
+    // a compression type that isn't there
+    (512, &[(72, 8)], Fault::Incompatible(8)),
     (
         512,
         &[(8, 509), (16, (4 << 32) + 9)],
@@ -83,6 +85,29 @@ fn check_refused(alloc: Global, row: Refused) -> Result<(), Fail> {
 #[test]
 fn a_header_is_refused_by_its_first_fault(rt: HostRuntime) -> Result<(), Fail> {
     each(rt.alloc(), &REFUSED, check_refused)
+}
+
+// Changes of the minimal header, and its incompatible features.
+type Features = (Numbers<'static>, u64);
+
+const FEATURES: [Features; 4] = [
+    (&[(72, 1)], 1),
+    (&[(72, 2)], 2),
+    (&[(72, 7)], 7),
+    // clusters compressed by zstd: a header of 112 bytes, and the type
+    (&[(72, 11), (96, 0x4_0000_0070), (104, 1 << 56)], 11),
+];
+
+fn check_features(alloc: Global, row: Features) -> Result<(), Fail> {
+    let (numbers, features) = row;
+    let image = least_with(alloc, numbers)?;
+    let fields = read_header(alloc, image.bytes())?;
+    same(fields.incompatible_features, features, row)
+}
+
+#[test]
+fn marks_and_a_compression_type_are_read(rt: HostRuntime) -> Result<(), Fail> {
+    each(rt.alloc(), &FEATURES, check_features)
 }
 
 // A header that sets each field.

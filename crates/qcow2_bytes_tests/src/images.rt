@@ -3,7 +3,7 @@
 use crate::calls::image_lookup;
 use qcow2_base::{Fault, MemStorage};
 use qcow2_testing::sample_image::{L2_TABLE, LAST_ENTRY, sample_image};
-use qcow2_testing::{COMPRESSED, COPIED, each, part_of, rows, same};
+use qcow2_testing::{COMPRESSED, COPIED, each, part_of, put_all, rows, same};
 use std::alloc::Global;
 use std::test::Fail;
 
@@ -50,4 +50,12 @@ fn check_lookup(alloc: Global, row: Lookup) -> Result<(), Fail> {
 #[test]
 fn a_lookup_reads_what_the_bytes_say(rt: HostRuntime) -> Result<(), Fail> {
     each(rt.alloc(), LOOKUPS, check_lookup)
+}
+
+#[test]
+fn a_marked_image_is_looked_into(rt: HostRuntime) -> Result<(), Fail> {
+    let mut image = image(rt.alloc())?;
+    put_all(&mut image, &[(72, 3)])?;
+    let found = image_lookup(rt.alloc(), image.bytes(), 0x200);
+    same(found.map(|found| found.kind), Ok(2), "zeros")
 }

@@ -225,7 +225,7 @@ const HIGH: u64 = 0x4100 << 48;
 const REFUSED: &[Refused] = rows! { Refused:
     { cluster_bits: 8, features: 1, offset: 1, len: 7, others: 2, found: Err(Fault::ClusterSize) },
     { cluster_bits: 22, features: 0, offset: 0, len: 8, others: 0, found: Err(Fault::ClusterSize) },
-    { cluster_bits: 9, features: 17, offset: 1, len: 7, others: 2, found: Err(Fault::Incompatible(17)) },
+    { cluster_bits: 9, features: 17, offset: 1, len: 7, others: 2, found: Err(Fault::Incompatible(16)) },
     { cluster_bits: 9, features: 0, offset: 0, len: 7, others: 2, found: Err(Fault::WrongLength) },
     { cluster_bits: 9, features: 0, offset: 0, len: 513, others: 0, found: Err(Fault::WrongLength) },
     { cluster_bits: 9, features: 0, offset: 0, len: 512, others: 0, found: Ok(2) },

@@ -2,15 +2,15 @@
 
 use qcow2_base::{Device, Fault, HostCluster, MAX_FILE_LENGTH, Storage};
 use qcow2_check::{Counters, Finding, Findings, FlagPlace, WrongFlag};
-use qcow2_metadata::Header;
+use qcow2_metadata::{AcceptedFeatures, Header};
 use qcow2_repair::repair_image;
 use qcow2_summary::is_consistent;
 use qcow2_testing::damages::{FoundCluster, FoundFlag, FoundPlace};
 use std::alloc::Global;
 
-// Loads the header of an image.
+// Loads the header of an image, which may be marked.
 fn header_of<S: Storage>(alloc: Global, image: &mut S) -> Result<Header, Fault> {
-    Header::load(alloc, image, false)
+    Header::load_accepting(alloc, image, false, AcceptedFeatures::each())
 }
 
 /// Returns the findings of an image in order, the first hundred at most.

@@ -61,9 +61,10 @@ fn a_reader_of_flags_goes_on_after_a_refused_read(rt: HostRuntime) -> Result<(),
     Err(Fail::new("a reader of flags makes ever more calls"))
 }
 
-// Work for each step of a repair: an autoclear feature; two entries with false flags that name cluster 5,
-// whose refcount is too low; a leaked cluster; and late flags of the L2 table and of cluster 7.
+// Work for each step of a repair: an autoclear feature and both marks; two entries with false flags that name
+// cluster 5, whose refcount is too low; a leaked cluster; and late flags of the L2 table and of cluster 7.
 const TO_REPAIR: Numbers<'static> = &[
+    (72, 3),
     (88, 1),
     (L1_TABLE, L2_TABLE),
     (L2_TABLE + 32, COPIED | 5 << 9),
@@ -78,7 +79,7 @@ macro_rules! written {
 }
 
 // The writes and syncs of its repair: the header with its end, then cleared flags, raised refcounts, lowered
-// refcounts, and set flags.
+// refcounts, set flags, and cleared marks.
 const REPAIRS: &[StorageCall] = &[
     written!(0, 112),
     StorageCall::Sync,
@@ -90,6 +91,8 @@ const REPAIRS: &[StorageCall] = &[
     StorageCall::Sync,
     written!(L1_TABLE, 16),
     written!(L2_TABLE, 512),
+    StorageCall::Sync,
+    written!(72, 8),
     StorageCall::Sync,
 ];
 

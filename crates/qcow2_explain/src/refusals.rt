@@ -70,12 +70,7 @@ pub(super) fn load_header<S: Storage>(
 ) -> Result<Header, Fault>
     ensures storage { OnlyReads result (S.state image.old) (S.state image.new) }
 {
-    let accepted = AcceptedFeatures {
-        dirty: true,
-        corrupt: true,
-        compression_type: true,
-    };
-    let header = Header::load_accepting(alloc, image, false, accepted)?;
+    let header = Header::load_accepting(alloc, image, false, AcceptedFeatures::each())?;
     match fault {
         Fault::Incompatible(_) => Header::load(alloc, image, false),
         _ => Ok(header),
@@ -137,12 +132,14 @@ fn plain_refusal<S: Storage>(
         Search::L1Length(fields) if is_l1_short(header) => {
             short_l1_refusal(alloc, image, header, fields)
         }
+        Search::Marks(fields) if header.is_marked() => by_fields(alloc, image, fault, fields),
         Search::UncountedParts => match header.uncounted_part() {
             Some(part) => by_part(alloc, image, part),
             None => Ok(None),
         },
         Search::Fields(_) | Search::Extensions(_) => Ok(None),
-        Search::Version(_) | Search::DataFile(_) | Search::L1Length(_) => Ok(None),
+        Search::Version(_) | Search::DataFile(_) => Ok(None),
+        Search::L1Length(_) | Search::Marks(_) => Ok(None),
         Search::Clusters | Search::SharedTables => Ok(None),
         Search::File | Search::Locks | Search::Elsewhere(_) => Ok(None),
     }
@@ -181,7 +178,7 @@ fn room_refusal<S: Storage>(
     let mut bytes = vec![in alloc; 0; header.cluster_size()]?;
     image.read(&mut bytes, 0)?;
     let mut copy = MemStorage::new(bytes);
-    match Header::load(alloc, &mut copy, true) {
+    match Header::load_accepting(alloc, &mut copy, true, AcceptedFeatures::each()) {
         Ok(_) => Ok(None),
         Err(Fault::HeaderTooLong) => by_fields(alloc, image, Fault::HeaderTooLong, fields),
         Err(fault) => Err(fault),

@@ -34,6 +34,8 @@ pub(super) enum Search {
     DataFile(&'static [Field]),
     /// An L1 table that is too short for the disk.
     L1Length(&'static [Field]),
+    /// The marks of an image that must be repaired first.
+    Marks(&'static [Field]),
     /// The parts of an image whose references aren't counted.
     UncountedParts,
     /// All tables and refcount blocks.
@@ -86,6 +88,7 @@ impl Search {
             Fault::InUse => Search::Locks,
             Fault::Shared(_) => Search::SharedTables,
             Fault::L1Short => Search::L1Length(&[L1_SIZE, SIZE, CLUSTER_BITS]),
+            Fault::Marked => Search::Marks(&[INCOMPATIBLE]),
             Fault::NoOffset | Fault::NameTooLong | Fault::FieldChanged(_) => OF_CALLS,
             Fault::CannotGrow | Fault::TooMany | Fault::WrongLength => OF_CALLS,
             Fault::NotPlaced | Fault::BadEdit(_) | Fault::BadStep(_) => OF_WORDS,

@@ -65,6 +65,11 @@ impl Fields {
         }
     }
 
+    /// Whether the image is marked dirty or corrupt.
+    pub(crate) fn is_marked(&self) -> bool {
+        self.is_dirty || self.is_corrupt
+    }
+
     /// The size of a cluster in bytes.
     pub(crate) fn cluster_size(&self) -> u64 {
         1 << self.cluster_bits.min(21)

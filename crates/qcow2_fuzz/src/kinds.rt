@@ -43,7 +43,7 @@ impl Kind {
     pub(crate) fn accepted_features(self) -> u64 {
         match self {
             Kind::Map | Kind::Tables | Kind::Layout | Kind::Refcount | Kind::Check => 0xb,
-            Kind::Repair | Kind::Plan | Kind::Apply => COMPRESSION_TYPE,
+            Kind::Repair | Kind::Plan | Kind::Apply => 0xb,
             _ => 0,
         }
     }
@@ -60,7 +60,7 @@ impl Kind {
             Kind::List | Kind::Map | Kind::At | Kind::Tables | Kind::Refcount => &[18, 19, 20, 21],
             Kind::Layout | Kind::Check => &[18, 19, 20, 21, 37],
             Kind::Repair => &[18, 19, 20, 21, 24, 30, 37, 38, 41],
-            Kind::Plan | Kind::Apply => &[18, 19, 20, 21, 23, 27, 30, 32, 36, 40, 41],
+            Kind::Plan | Kind::Apply => &[18, 19, 20, 21, 23, 27, 30, 32, 36, 40, 41, 42],
             Kind::Edit => &[18, 19, 20, 21, 23, 24, 32],
             Kind::Count => &[21, 24, 33],
             Kind::L2 => &[18, 19, 21],

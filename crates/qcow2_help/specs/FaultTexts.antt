@@ -1,8 +1,8 @@
 -- What does `explain` print of each fault?
 use Rattle.std.specs.Prelude.{ℕ, List}
 use Rattle.qcow2_base.specs.declared.fault.Fault.{Fault}
-use Rattle.qcow2_base.specs.declared.fault.Fault.TheVariants.{NotQcow2, Version, ClusterSize, HeaderShort, HeaderBig, L1Unaligned, ReftableUnaligned, RefcountWidth, BackingNameLong, BackingNamePlace, BackingNameText, ExtensionsExceed, ExtensionText, FeatureNameCut, FormatConflict, DataFileConflict, Incompatible, EntryReserved, EntryUnaligned, TableTooBig, TablePlace, NoOffset, NotPlaced, HeaderTooLong, NameTooLong, FieldChanged, VersionNeeded, CannotGrow, TooMany, CounterRange, WrongLength, BadEdit, BadStep, Storage, NoMemory, ExternalData, Uncounted, Overlap, InUse, Shared, L1Short}
-use Rattle.qcow2_help.specs.declared.faults.TheConstants.{BACKING_NAME_LONG, BACKING_NAME_PLACE, BACKING_NAME_TEXT, BAD_EDIT, BAD_STEP, CANNOT_GROW, CLUSTER_SIZE, COUNTER_RANGE, DATA_FILE_CONFLICT, ENTRY_RESERVED, ENTRY_UNALIGNED, EXTENSIONS_EXCEED, EXTENSION_TEXT, EXTERNAL_DATA, FEATURE_NAME_CUT, FIELD_CHANGED, FORMAT_CONFLICT, HEADER_BIG, HEADER_SHORT, HEADER_TOO_LONG, INCOMPATIBLE, IN_USE, L1_SHORT, L1_UNALIGNED, NAME_TOO_LONG, NOT_PLACED, NOT_QCOW2, NO_MEMORY, NO_OFFSET, OVERLAP, REFCOUNT_WIDTH, REFTABLE_UNALIGNED, SHARED, STORAGE, TABLE_PLACE, TABLE_TOO_BIG, TOO_MANY, UNCOUNTED, VERSION, VERSION_NEEDED, WRONG_LENGTH}
+use Rattle.qcow2_base.specs.declared.fault.Fault.TheVariants.{NotQcow2, Version, ClusterSize, HeaderShort, HeaderBig, L1Unaligned, ReftableUnaligned, RefcountWidth, BackingNameLong, BackingNamePlace, BackingNameText, ExtensionsExceed, ExtensionText, FeatureNameCut, FormatConflict, DataFileConflict, Incompatible, EntryReserved, EntryUnaligned, TableTooBig, TablePlace, NoOffset, NotPlaced, HeaderTooLong, NameTooLong, FieldChanged, VersionNeeded, CannotGrow, TooMany, CounterRange, WrongLength, BadEdit, BadStep, Storage, NoMemory, ExternalData, Uncounted, Overlap, InUse, Shared, L1Short, Marked}
+use Rattle.qcow2_help.specs.declared.faults.TheConstants.{BACKING_NAME_LONG, BACKING_NAME_PLACE, BACKING_NAME_TEXT, BAD_EDIT, BAD_STEP, CANNOT_GROW, CLUSTER_SIZE, COUNTER_RANGE, DATA_FILE_CONFLICT, ENTRY_RESERVED, ENTRY_UNALIGNED, EXTENSIONS_EXCEED, EXTENSION_TEXT, EXTERNAL_DATA, FEATURE_NAME_CUT, FIELD_CHANGED, FORMAT_CONFLICT, HEADER_BIG, HEADER_SHORT, HEADER_TOO_LONG, INCOMPATIBLE, IN_USE, L1_SHORT, L1_UNALIGNED, MARKED, NAME_TOO_LONG, NOT_PLACED, NOT_QCOW2, NO_MEMORY, NO_OFFSET, OVERLAP, REFCOUNT_WIDTH, REFTABLE_UNALIGNED, SHARED, STORAGE, TABLE_PLACE, TABLE_TOO_BIG, TOO_MANY, UNCOUNTED, VERSION, VERSION_NEEDED, WRONG_LENGTH}
 
 -- the text on a fault
 unfoldable pub fault_text : Fault → List ℕ
@@ -47,3 +47,4 @@ fault_text Overlap = OVERLAP.now
 fault_text InUse = IN_USE.now
 fault_text (Shared position) = SHARED.now
 fault_text L1Short = L1_SHORT.now
+fault_text Marked = MARKED.now

@@ -146,7 +146,8 @@ prints a line for each error, and last `consistent`, or how many clusters and fl
   short-l1 ENTRIES NEEDED           the L1 table is too short for the disk: the header is damaged
 
 PLACE is `l1 INDEX`, or the guest offset of an L2 entry. With `json` it prints numbers, as `qemu-img check
---output=json` does. With `repair` it corrects refcounts and flags first; without it, it only reads.
+--output=json` does. With `repair` it corrects refcounts and flags first, and clears the marks if nothing
+stays wrong; without it, it only reads.
 
 Status 0: consistent. 1: a fault. 3: only leaks and late flags, which harm nobody if the file is whole.
 4: anything worse.
@@ -176,8 +177,8 @@ OFFSET and LENGTH are multiples of the cluster size, LENGTH not 0, decimal or wi
 cluster. It prints `freed FIRST COUNT` for clusters that are free now, `kept CLUSTER COUNTER` for one that
 lost a reference and has COUNTER left, and `gained CLUSTER` for a mapped one.
 
-Status 0: made. 1: a fault. Faults: those of `info`; 39, 41, 36, 32, 27, 23, 40, 30, and 18 to 21 of the
-tables. All but 34 and 39 come before a byte changes. `qmeta explain N` says more.
+Status 0: made. 1: a fault. Faults: those of `info`; 39, 42, 41, 36, 32, 27, 23, 40, 30, and 18 to 21 of
+the tables. All but 34 and 39 come before a byte changes. `qmeta explain N` says more.
 
   $ qmeta apply disk.qcow2 plan discard:0x20100000
 ";

@@ -105,10 +105,9 @@ Restore the first cluster from a copy of the same state.
 
 const INCOMPATIBLE: &str = "\
 fault 17, Incompatible: Each incompatible feature of the image must be one that the command accepts.
-The image was left dirty (bit 0x1) or corrupt (0x2), which only `map`, `tables`, `layout`, `refcount` and
-`check` accept; has zstd compression (0x8), which `info`, `list`, `at`, `edit` and `count` refuse; or has a
-feature that `qmeta` doesn't read, such as subclusters (0x10).
-Run `qemu-img check -r all` on a dirty or corrupt image; copy any other, without its snapshots, by
+The image was left dirty (bit 0x1) or corrupt (0x2) or has zstd compression (0x8), which `info`, `list`,
+`at`, `edit` and `count` refuse; or has a feature that `qmeta` doesn't read, such as subclusters (0x10).
+Run `qmeta check IMAGE repair` on a dirty or corrupt image; copy any other, without its snapshots, by
 `qemu-img convert -O qcow2 IMAGE NEW`, with `-B NAME -F FORMAT` if it has a backing file.
 ";
 
@@ -284,6 +283,14 @@ Restore the header from a copy; `qmeta explain 41 IMAGE` says how many entries t
 the disk needs.
 ";
 
+const MARKED: &str = "\
+fault 42, Marked: An image that is changed must not be marked `dirty` or `corrupt`.
+A program was stopped before it had written all refcounts, or it found damage. A change could free clusters
+that are in use.
+Run `qmeta check IMAGE repair`: it clears both marks if nothing stays wrong. If clusters stay `missing`, run
+`qemu-img check -r all`, which adds refcount blocks. If the repair is refused, `qmeta explain` says why.
+";
+
 /// Returns the help of a fault: its number and name, the rule of the format or of a call that is broken, its
 /// usual causes, and what helps. Ignores what the fault carries.
 #[tactic(auto, unfolding(crate::specs::FaultTexts::fault_text))]
@@ -343,6 +350,7 @@ fn later_fault_help(fault: &Fault) -> &'static str
         Fault::InUse => IN_USE,
         Fault::Shared(_) => SHARED,
         Fault::L1Short => L1_SHORT,
+        Fault::Marked => MARKED,
         _ => "",
     }
 }

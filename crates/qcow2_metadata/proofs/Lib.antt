@@ -18,6 +18,7 @@ pub mod L2TableLemmas
 pub mod LawsLemmas
 pub mod LayoutLemmas
 pub mod LoadLemmas
+pub mod MarksLemmas
 pub mod OneCounterLemmas
 pub mod OneEntryLemmas
 pub mod OpenLemmas

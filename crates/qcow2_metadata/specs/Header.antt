@@ -4,6 +4,7 @@ pub mod Chain
 pub mod Extensions
 pub mod Features
 pub mod Grammar
+pub mod Marks
 pub mod Open
 pub mod Pointers
 pub mod Text
@@ -79,10 +80,6 @@ no_feature = record { dirty = false; corrupt = false; compression_type = false }
 
 abbrev pub each_feature : AcceptedFeatures
 each_feature = record { dirty = true; corrupt = true; compression_type = true }
-
--- any compression type, of an image that is neither dirty nor corrupt
-abbrev pub any_compression : AcceptedFeatures
-any_compression = record { dirty = false; corrupt = false; compression_type = true }
 
 -- the bit of a feature where it is accepted and the image has it
 abbrev pub accepted_feature : Bool → IncompatibleFeatures → V3HeaderBase → ℕ

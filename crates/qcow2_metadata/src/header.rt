@@ -13,6 +13,7 @@ mod feature_names;
 mod features;
 mod fixed_parts;
 mod load;
+mod marks;
 mod names;
 mod pointers;
 mod text;

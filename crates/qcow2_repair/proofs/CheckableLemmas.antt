@@ -14,6 +14,7 @@ use Rattle.qcow2_metadata.proofs.TableLemmas.{full_cluster, no_fault_at_all, tab
 use Rattle.qcow2_metadata.proofs.WritableLemmas.{uncounted_part-same, writable-same}
 use Rattle.qcow2_metadata.specs.Entries.L1Entry.{l1_fault}
 use Rattle.qcow2_metadata.specs.Header.{HeaderRecord, IsValidHeader, uncounted_part}
+use Rattle.qcow2_metadata.specs.Header.Marks.{without_marks}
 use Rattle.qcow2_metadata.specs.Header.Open.{SaysSame, opened_text}
 use Rattle.qcow2_metadata.specs.Placed.{Layout, loaded_numbers, numbers_at, offset_of, place_fault, valid_numbers_at}
 use Rattle.qcow2_metadata.specs.Table.{first_fault, l2_entries}
@@ -25,11 +26,12 @@ use Rattle.qcow2_check.specs.Uses.{ImageTables, header_uses, image_tables, image
 use Rattle.qcow2_check.specs.declared.tally.TallyKind.TheVariants.{Fixed}
 use Rattle.qcow2_repair.proofs.FlagsLemmas.{passed_cases}
 use Rattle.qcow2_repair.proofs.FoundLemmas.{checked-found, fine-parts, found-repairable, ok-same, repairable-found-written}
-use Rattle.qcow2_repair.proofs.HeaderLemmas.{loads-written, past-first, text-fits}
+use Rattle.qcow2_repair.proofs.HeaderLemmas.{first-l1-stays, loads-written, past-first, text-fits}
+use Rattle.qcow2_repair.proofs.MarksLemmas.{field-fits, repairable-cleared, within-first}
 use Rattle.qcow2_repair.proofs.RepairLemmas.{blocks-used}
 use Rattle.qcow2_repair.proofs.OrderLemmas.{fixed-both, l1-stays, named-block-below}
 use Rattle.qcow2_repair.proofs.StagesLemmas.{stages}
-use Rattle.qcow2_repair.specs.Repair.{IsRepairable, MakesWritable, Repairs, tables_in}
+use Rattle.qcow2_repair.specs.Repair.{ClearsMarks, EndsMarks, HasPassed, IsRepairable, MakesWritable, Repairs, tables_in}
 use Rattle.qcow2_repair.specs.Counters.{IsOutsideBlocks}
 use Rattle.qcow2_repair.specs.Flags.{FlagPassState, IsOutsideL2Tables, IsOutsideTables, PassesFlags, l1_due, l1_in, pass_all, passed_l1}
 use Rattle.qcow2_repair.specs.Refusals.{repairable_tables}
@@ -247,13 +249,43 @@ load-checked : (header : HeaderRecord) (reftable : List ℕ) (image : Image) →
     → IsRepairable (tables_in header reftable image) image → TablesLoad header reftable image → checked_tables header image ≡ Ok (tables_in header reftable image)
 load-checked header reftable image counted is loads = rw (counted, loads.l1_loads, loads.reftable_loads, is.placed, is.loads) refl
 
+-- also after marks are cleared
+cleared-load : (header left : HeaderRecord) (reftable : List ℕ) (old new : Image) → IsRepairable (tables_in header reftable old) old
+    → ClearsMarks header left old new → TablesLoad header reftable old → TablesLoad (without_marks header) reftable new
+cleared-load header left reftable old new is clears loads =
+    let tables = tables_in header reftable old in
+    let outside = within-first old new clears.others in
+    let fits = field-fits header.v2.cluster_bits is.bits in
+    let old_l1 = loaded-parts (l1_layout header) (l1_cluster header) old (l1_in header old) loads.l1_loads in
+    let l1 : l1_in header new ≡ l1_in header old = first-l1-stays tables old new 80 is outside fits in
+    let valid : first_fault (l1_fault header.v2.cluster_bits) (l1_in header new) ≡ None =
+    ap (first_fault (l1_fault header.v2.cluster_bits)) l1 ∙ old_l1.valid in
+    record {
+      l1_loads = parts-loaded (l1_layout header) (l1_cluster header) new (l1_in header new) (record { place = old_l1.place; valid = valid; are = refl });
+      reftable_loads = reftable-stays header reftable old new loads.reftable_loads (λ o within below.
+          past-first (2 ^ header.v2.cluster_bits) 80 o old new fits outside (reftable-past-first tables old o is within));
+    }
+
+-- an image that can be checked before the end of a repair can be after it
+ended-checked : (nothing : Bool) (header left : HeaderRecord) (reftable : List ℕ) (old new : Image) → option_map Uncounted (uncounted_part header) ≡ None
+    → IsRepairable (tables_in header reftable old) old → TablesLoad header reftable old → EndsMarks nothing header left old new
+    → checked_tables left new ≡ Ok (tables_in left reftable new)
+ended-checked false header left reftable old new counted is loads ends = rw (ends.0, ends.1) (load-checked header reftable old counted is loads)
+ended-checked true header left reftable old new counted is loads ends =
+    rw ends.becomes (load-checked (without_marks header) reftable new counted (repairable-cleared header left reftable old new is ends)
+    (cleared-load header left reftable old new is ends loads))
+
 -- a repaired image can be checked
-pub checkable-repaired : (header written : HeaderRecord) (tables : ImageTables) (old mid new : Image) → IsValidHeader header → IsBytes old
-    → repairable_tables header old ≡ Ok tables → MakesWritable header written old mid → Repairs written tables.reftable mid new
-    → checked_tables written new ≡ Ok (tables_in written tables.reftable new)
-checkable-repaired header written tables old mid new valid bytes is makes repair =
+pub checkable-repaired : (nothing : Bool) (header written left : HeaderRecord) (tables : ImageTables) (old passed new : Image) → IsValidHeader header
+    → IsBytes old → HasPassed header written tables old passed → EndsMarks nothing written left passed new
+    → checked_tables left new ≡ Ok (tables_in left tables.reftable new)
+checkable-repaired nothing header written left tables old passed new valid bytes has ends =
+    let mid = has.0 in
+    let is = has.1 in
+    let makes = has.2 in
+    let repair = has.3 in
     let start = repairable-found-written header written tables old mid valid bytes is makes in
     let says : SaysSame header written = writable-same header written makes.becomes in
     let counted = ap (option_map Uncounted) (uncounted_part-same header written says) ∙ (checked-found header old tables is).counted in
-    load-checked written tables.reftable new counted (stages written tables.reftable mid new repair start).four.is
-    (repaired-load written tables.reftable mid new start repair (written-load header written tables old mid valid bytes is makes))
+    ended-checked nothing written left tables.reftable passed new counted (stages written tables.reftable mid passed repair start).four.is
+    (repaired-load written tables.reftable mid passed start repair (written-load header written tables old mid valid bytes is makes)) ends

@@ -105,9 +105,9 @@ l2-past-first tables old new len table is outside fits names = table-same (geome
     (λ o here. past-first (2 ^ tables.header.v2.cluster_bits) len o old new fits outside (λ first. table-past-first tables old table is names (sym here ∙ first)))
 
 -- and so does the L1 table
-l1-stays : (tables : ImageTables) (old new : Image) (len : ℕ) → IsRepairable tables old → SameOutside 0 len old new
+pub first-l1-stays : (tables : ImageTables) (old new : Image) (len : ℕ) → IsRepairable tables old → SameOutside 0 len old new
     → len ≤ 2 ^ tables.header.v2.cluster_bits → l1_in tables.header new ≡ l1_in tables.header old
-l1-stays tables old new len is outside fits = table_numbers_same new old _ _ tables.header.v2.l1_size (λ k below. at k below)
+first-l1-stays tables old new len is outside fits = table_numbers_same new old _ _ tables.header.v2.l1_size (λ k below. at k below)
   where
     w : ℕ
     w = 2 ^ tables.header.v2.cluster_bits
@@ -203,7 +203,7 @@ repairable-written header written l1 reftable len before mid says is numbers out
     let tables = image_tables header l1 reftable in (
       repairable-said header written l1 reftable mid says
           (repairable-by tables before mid is (λ table names. l2-past-first tables before mid len table is outside fits names)),
-      l1-said header written mid says ∙ l1-stays tables before mid len is outside fits ∙ sym numbers,
+      l1-said header written mid says ∙ first-l1-stays tables before mid len is outside fits ∙ sym numbers,
     )
 
 -- an image uses the same clusters by a header that says the same, and has the same counters
@@ -283,7 +283,7 @@ pub loads-written : (header written : HeaderRecord) (tables : ImageTables) (len 
 loads-written header written tables len before mid says found is outside fits =
     let l1 = repairable-l1 header tables before found in
     let here : loaded_l1_table header mid ≡ Ok (l1_in header mid) =
-    let kept : l1_in header mid ≡ l1_in header before = l1-stays (image_tables header tables.l1 tables.reftable) before mid len is outside fits in
+    let kept : l1_in header mid ≡ l1_in header before = first-l1-stays (image_tables header tables.l1 tables.reftable) before mid len is outside fits in
     rw kept l1.0 in
     subst (λ v2. loaded_l1_table (record written { v2 = v2 }) mid ≡ Ok (l1_in (record written { v2 = v2 }) mid)) (sym says.v2) here
 
@@ -308,19 +308,7 @@ pub l1-place-said : (header written : HeaderRecord) → SaysSame header written 
 l1-place-said header written says = subst (λ v2. place_fault (l1_layout header) (l1_cluster header) ≡ None
     → place_fault (l1_layout (record written { v2 = v2 })) (l1_cluster (record written { v2 = v2 })) ≡ None) (sym says.v2) (λ placed. placed)
 
--- a fault after calls that read and calls that write
-pub reports-later : {A B C : Type 0} (x : A) (y : B) (z : C) (fault : Fault) (place : Option ℕ) (len : ℕ) (a b c d : StorageState)
-    → OnlyReads (Ok x) a b → OnlyWrites (Ok y) place len b c → ReportsFailures {T = Unit {0}} (Err fault) c d → ReportsFailures {T = C} (Err fault) a d
-reports-later x y z fault place len a b c d reads writes reports =
-    record { failed = grind (arith, nat_tests, reads.told, writes.told, reports.failed); device = grind (arith, reads.device, writes.device, reports.device) }
-
--- or the first of these writes failed
-pub reports-write : {A B : Type 0} (x : A) (answer : Result B Fault) (place : Option ℕ) (len : ℕ) (a b c : StorageState)
-    → OnlyReads (Ok x) a b → OnlyWrites answer place len b c → ReportsFailures answer a c
-reports-write x answer place len a b c reads writes =
-    record { failed = grind (arith, nat_tests, reads.told, writes.told); device = grind (arith, reads.device, writes.device) }
-
--- or none did
+-- calls that read, and calls that write, of which none failed
 pub reports-none : {A B C : Type 0} (x : A) (y : B) (z : C) (place : Option ℕ) (len : ℕ) (a b c d : StorageState)
     → OnlyReads (Ok x) a b → OnlyWrites (Ok y) place len b c → ReportsFailures {T = Unit {0}} (Ok tt) c d → ReportsFailures {T = C} (Ok z) a d
 reports-none x y z place len a b c d reads writes reports =

@@ -7,6 +7,7 @@ pub mod FlagsLemmas
 pub mod FoundLemmas
 pub mod HeaderLemmas
 pub mod LeftLemmas
+pub mod MarksLemmas
 pub mod OrderLemmas
 pub mod PassesLemmas
 pub mod RefusalsLemmas

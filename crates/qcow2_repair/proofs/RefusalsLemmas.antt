@@ -7,13 +7,14 @@ use Rattle.qcow2_base.specs.Types.{IsClusterBits}
 use Rattle.qcow2_base.specs.declared.fault.Fault.{Fault}
 use Rattle.qcow2_base.specs.declared.fault.Fault.TheVariants.{L1Short, Storage, Uncounted}
 use Rattle.qcow2_base.specs.declared.fault.UncountedPart.{UncountedPart}
+use Rattle.qcow2_base.specs.declared.types.HostCluster.{HostCluster}
 use Rattle.qcow2_metadata.specs.Header.{HeaderRecord, geometry_of, uncounted_part}
 use Rattle.qcow2_metadata.specs.Refblock.{greatest_counter}
 use Rattle.qcow2_metadata.specs.Results.{Reads, unless_refused}
 use Rattle.qcow2_check.proofs.CountersLemmas.{counter-fits}
 use Rattle.qcow2_summary.proofs.ReportedLemmas.{reported-within}
 use Rattle.qcow2_check.proofs.FindingsListLemmas.{pass-one, take-one}
-use Rattle.qcow2_check.specs.Counters.{block_of_cluster, blocks_fault}
+use Rattle.qcow2_check.specs.Counters.{block_of_cluster, blocks_fault, counter_of}
 use Rattle.qcow2_check.specs.Findings.{FindingsState, IsFindingsOf, checked_tables, finding_at, findings_from, findings_left, image_findings, is_shared, is_wrong, tables_of}
 use Rattle.qcow2_check.specs.L1Length.{is_l1_short}
 use Rattle.qcow2_check.specs.NamedTables.{loaded_l1_table}
@@ -21,7 +22,8 @@ use Rattle.qcow2_check.specs.Uses.{ImageTables, all_load, image_tables, image_us
 use Rattle.qcow2_check.specs.declared.findings.Finding.{Finding}
 use Rattle.qcow2_repair.specs.Repair.{IsRepairable, image_uses_of}
 use Rattle.qcow2_repair.specs.Flags.{l1_in}
-use Rattle.qcow2_repair.specs.Refusals.{IsFindingRefusal, IsRepairRefusal, findings_refusal, header_refusal, refusal_of, unrefused_tables}
+use Rattle.qcow2_repair.specs.Left.{CountsUsed}
+use Rattle.qcow2_repair.specs.Refusals.{IsFindingRefusal, IsRepairRefusal, are_counted, findings_refusal, header_refusal, leaves_nothing, refusal_of, unrefused_tables}
 
 -- a fact of each refcount order
 order-cases : (P : ℕ → Type 0) → P 0 → P 1 → P 2 → P 3 → P 4 → P 5 → P 6 → (order : ℕ) → order ≤ 6 → P order
@@ -126,6 +128,62 @@ still-refused (Some refused) a b fault is = grind (arith, is)
 all-left : (reader : FindingsState) (image : Image) → reader.position ≡ 0 → findings_left reader image ≡ image_findings (tables_of reader) image
 all-left reader image begun = rw begun refl
 
+-- what is told of the findings that a reader at the begin comes to is told of the image
+pub nothing-found : (header : HeaderRecord) (reader : FindingsState) (l1 reftable : List ℕ) (image : Image) (told : Bool)
+    → reader.header ≡ header → reader.position ≡ 0 → l1 ≡ reader.l1 → reftable ≡ reader.counters.reftable
+    → told ≡ are_counted reader.header reader.counters.reftable (findings_left reader image)
+    → told ≡ leaves_nothing (image_tables header l1 reftable) image
+nothing-found header reader l1 reftable image told is begun l1_is reftable_is counted =
+    rw (l1_is, reftable_is, ← is) (rw (all-left reader image begun) at counted)
+
+-- where blocks count what is found, nothing is wrong with a cluster, or a block counts it
+counted-each : (tables : ImageTables) (image : Image) (from count c : ℕ) → from ≤ c → c < from + count
+    → are_counted tables.header tables.reftable (findings_from tables image from count) ≡ true
+    → (is_wrong (finding_at tables image c) ≡ false) ⊎ IsSome (block_of_cluster tables.header tables.reftable c)
+counted-each tables image from zero c after before all = absurd (omega (arith, after, before))
+counted-each tables image from (suc count) c after before all =
+    with_next (counted-each tables image (from + 1) count c)
+  where
+    Fine : Type 0
+    Fine = (is_wrong (finding_at tables image c) ≡ false) ⊎ IsSome (block_of_cluster tables.header tables.reftable c)
+
+    with_next : (from + 1 ≤ c → c < from + 1 + count → are_counted tables.header tables.reftable (findings_from tables image (from + 1) count) ≡ true → Fine) → Fine
+    with_next next = elim (is_wrong (finding_at tables image from)) as (λ test. is_wrong (finding_at tables image from) ≡ test → Fine) [
+      | true ↦ λ wrong.
+          let both = rw (take-one tables image from count wrong) at all in
+          elim (cases_lt from c) [
+            | inl later ↦ next (omega (arith, later)) (omega (arith, before)) (grind (arith, both))
+            | inr here ↦
+                let same : from ≡ c = omega (arith, after, here) in
+                let some : IsSome (block_of_cluster tables.header tables.reftable from) = grind (arith, both) in
+                inr (rw same at some)
+          ]
+      | false ↦ λ right. elim (cases_lt from c) [
+        | inl later ↦ next (omega (arith, later)) (omega (arith, before)) (rw (pass-one tables image from count right) at all)
+        | inr here ↦
+            let same : from ≡ c = omega (arith, after, here) in
+            inl (rw same at right)
+      ]
+    ] refl
+
+-- so they count each cluster that is used
+counted-used : (tables : ImageTables) (image : Image) (c : ℕ) → 0 < image_uses_of tables image c
+    → (is_wrong (finding_at tables image c) ≡ false) ⊎ IsSome (block_of_cluster tables.header tables.reftable c)
+    → IsSome (block_of_cluster tables.header tables.reftable c)
+counted-used tables image c used (inr counted) = counted
+counted-used tables image c used (inl right) = by_block (block_of_cluster tables.header tables.reftable c) refl
+  where
+    by_block : (found : Option HostCluster) → block_of_cluster tables.header tables.reftable c ≡ found
+        → IsSome (block_of_cluster tables.header tables.reftable c)
+    by_block (Some block) there = rw there refl
+    by_block None none =
+        let zero : counter_of tables.header tables.reftable image c ≡ 0 = grind (arith, none) in
+        absurd (omega (arith, used, zero, (wrong-parts (finding_at tables image c) right).0, reported-within tables image c))
+
+pub nothing-counts : (tables : ImageTables) (image : Image) → leaves_nothing tables image ≡ true → CountsUsed tables image
+nothing-counts tables image all = λ c below used.
+    counted-used tables image c used (counted-each tables image 0 max_file_length c (omega arith) (omega (arith, below)) all)
+
 -- the L1 table of an image that can be checked is the one in the image
 pub checked-l1 : (header : HeaderRecord) (tables : ImageTables) (image : Image) → checked_tables header image ≡ Ok tables → tables.l1 ≡ l1_in header image
 checked-l1 header tables image is = by_l1 (loaded_l1_table header image) refl
@@ -156,7 +214,7 @@ only-reads value fault a b c one other = grind (arith, nat_tests, one, other)
 -- a fault after a reader's begin is that of the tables of an image that can't be repaired
 pub refused-reads : {A T : Type 0} (view : T → ImageTables) (header : HeaderRecord) (reader : FindingsState) (value : A) (fault : Fault) (old now later : StorageState)
     → reader.header ≡ header → reader.position ≡ 0 → OnImage old (λ bytes. checked_tables header bytes ≡ Ok (tables_of reader)) → OnlyReads (Ok value) old now
-    → Reads {T = Unit {0}} (λ done. done) (Err fault) (λ bytes. unless_refused (findings_refusal reader.header reader.counters.reftable (findings_left reader bytes)) (Ok (tt {0})))
+    → Reads {T = Bool} (λ _. tt {0}) (Err fault) (λ bytes. unless_refused (findings_refusal reader.header reader.counters.reftable (findings_left reader bytes)) (Ok (tt {0})))
     IsFindingRefusal now later
     → Reads {T = T} view (Err fault) (unrefused_tables header) (IsRepairRefusal header) old later
 refused-reads view header reader value fault old now later is begun checked one reads = record {

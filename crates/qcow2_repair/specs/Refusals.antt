@@ -1,5 +1,5 @@
 -- Which findings does a repair refuse, and what are the tables of an image that none of them is refused of?
-use Rattle.std.specs.Prelude.{◌≡◌, ◌⊎◌, ℕ, ◌&&◌, nat_lt, if◌then◌else◌, is_some, List, [], ◌∷◌, Option, Some, None, option_map, Result, Ok}
+use Rattle.std.specs.Prelude.{◌≡◌, ◌⊎◌, ℕ, Bool, true, ◌&&◌, nat_lt, if◌then◌else◌, is_some, List, [], ◌∷◌, Option, Some, None, option_map, Result, Ok}
 use Rattle.std.specs.Option.{option_or}
 use Rattle.qcow2_base.specs.Storage.{Image}
 use Rattle.qcow2_base.specs.declared.fault.Fault.{Fault}
@@ -28,6 +28,16 @@ abbrev pub findings_refusal : HeaderRecord → List ℕ → List Finding → Opt
 findings_refusal header reftable [] = None
 findings_refusal header reftable (finding ∷ findings) =
     option_or (refusal_of header reftable finding) (findings_refusal header reftable findings)
+
+-- whether blocks count the clusters of all these findings, so that each can be made right
+abbrev pub are_counted : HeaderRecord → List ℕ → List Finding → Bool
+are_counted header reftable [] = true
+are_counted header reftable (finding ∷ findings) =
+    is_some (block_of_cluster header reftable finding.cluster.0) && are_counted header reftable findings
+
+-- whether a repair leaves nothing wrong in an image with these tables
+abbrev pub leaves_nothing : ImageTables → Image → Bool
+leaves_nothing tables image = are_counted tables.header tables.reftable (image_findings tables image)
 
 -- why an image with this header can't be repaired, whatever its tables say: a part that isn't read here, or an L1 table that is
 -- too short for the disk

@@ -1,11 +1,12 @@
 -- Which images can be repaired, and what does a repair change of their counters and flags?
-use Rattle.std.specs.Prelude.{◌≡◌, ◌⊎◌, ℕ, true, false, ◌<◌, ◌≤◌, List, length, None, Result, Ok, Err, IfErr, IsOk, IsSome, MatchResult}
+use Rattle.std.specs.Prelude.{◌≡◌, ◌⊎◌, ℕ, Bool, true, false, ◌<◌, ◌≤◌, List, length, None, Result, Ok, Err, IfErr, IsOk, IsSome, MatchResult}
 use Rattle.qcow2_base.specs.Format.{max_file_length}
-use Rattle.qcow2_base.specs.Storage.{Holds, Image, OnImage, OnImages, SameOutside, StorageState}
+use Rattle.qcow2_base.specs.Storage.{Holds, Image, OnImage, OnImages, SameOutside, StorageState, be}
 use Rattle.qcow2_base.specs.Types.{IsClusterBits}
 use Rattle.qcow2_base.specs.declared.fault.Fault.{Fault}
 use Rattle.qcow2_base.specs.declared.fault.Fault.TheVariants.{CounterRange}
 use Rattle.qcow2_metadata.specs.Header.{HeaderRecord, geometry_of}
+use Rattle.qcow2_metadata.specs.Header.Marks.{is_marked, without_marks}
 use Rattle.qcow2_metadata.specs.Header.Open.{IsWritableFault, header_after_load, opened_text}
 use Rattle.qcow2_metadata.specs.Refblock.{greatest_counter}
 use Rattle.qcow2_metadata.specs.Results.{IsFromOutside}
@@ -16,7 +17,7 @@ use Rattle.qcow2_check.specs.NamedTables.{l1_cluster, l1_layout}
 use Rattle.qcow2_check.specs.Uses.{ImageTables, all_load, image_tables, image_uses, uses_of}
 use Rattle.qcow2_repair.specs.Counters.{BreaksOff, PassesCounters}
 use Rattle.qcow2_repair.specs.Flags.{BreaksOffFlags, PassesFlags, l1_in, pass_all}
-use Rattle.qcow2_repair.specs.Refusals.{IsRepairRefusal, repair_within, repairable_tables}
+use Rattle.qcow2_repair.specs.Refusals.{IsRepairRefusal, leaves_nothing, repair_within, repairable_tables}
 use Rattle.qcow2_check.specs.Failures.{ReportsFailures, TearsAtMost}
 use Rattle.qcow2_repair.specs.declared.counters.CounterPass.TheVariants.{Fall, Rise}
 
@@ -88,34 +89,62 @@ pub record MakesWritable (header written : HeaderRecord) (old new : Image) : Typ
   pub text : Holds new 0 (opened_text true (Ok header))
   pub others : SameOutside 0 (length (opened_text true (Ok header))) old new
 
+-- a repair of an image with this header and these tables made the header this, and all its passes
+abbrev pub HasPassed : HeaderRecord → HeaderRecord → ImageTables → Image → Image → Type 0
+HasPassed header written tables old new = (mid : Image) × (repairable_tables header old ≡ Ok tables)
+    × MakesWritable header written old mid × Repairs written tables.reftable mid new
+
+-- the marks of a header were cleared, and it became this: its field in the image was written where it had any
+pub record ClearsMarks (header left : HeaderRecord) (old new : Image) : Type 0 where
+  pub becomes : left ≡ without_marks header
+  pub idle : is_marked header ≡ false → new ≡ old
+  pub field : is_marked header ≡ true → be new 72 8 ≡ left.base.incompatible_features
+  pub others : SameOutside 72 8 old new
+
+-- the end of a repair: the marks are cleared where it leaves nothing wrong
+abbrev pub EndsMarks : Bool → HeaderRecord → HeaderRecord → Image → Image → Type 0
+EndsMarks true header left old new = ClearsMarks header left old new
+EndsMarks false header left old new = (left ≡ header) × (new ≡ old)
+
 -- a repair of an image with this header that was done, in which the header became this
 abbrev pub IsRepaired : HeaderRecord → HeaderRecord → Image → Image → Type 0
-IsRepaired header written old new = (tables : ImageTables) × (mid : Image) × (repairable_tables header old ≡ Ok tables)
-    × MakesWritable header written old mid × Repairs written tables.reftable mid new
+IsRepaired header left old new = (written : HeaderRecord) × (tables : ImageTables) × (passed : Image)
+    × HasPassed header written tables old passed × EndsMarks (leaves_nothing tables old) written left passed new
+
+-- a repair made its passes, the header became this, and a flag says whether it left nothing wrong
+abbrev pub TellsPassed : HeaderRecord → HeaderRecord → Bool → Image → Image → Type 0
+TellsPassed header written told old new = (tables : ImageTables)
+    × HasPassed header written tables old new × (told ≡ leaves_nothing tables old)
 
 -- the write of the header's text was torn, of an image that can be repaired
 abbrev pub TearsText : HeaderRecord → Image → Image → Type 0
 TearsText header old new = IsOk (repairable_tables header old) × SameOutside 0 (length (opened_text true (Ok header))) old new
 
--- a repair that broke off in this fault: before its passes, or in one of them
+-- a repair that broke off in this fault: before its passes, in one of them, or in the write of its marks, which was torn
 abbrev pub BreaksOffAt : HeaderRecord → Fault → Image → Image → Type 0
 BreaksOffAt header fault old new = TearsAtMost fault (TearsText header) old new
     ⊎ ((written : HeaderRecord) × (tables : ImageTables) × (mid : Image) × (repairable_tables header old ≡ Ok tables)
     × MakesWritable header written old mid × BreaksOffRepair written tables.reftable fault mid new)
+    ⊎ ((written : HeaderRecord) × (tables : ImageTables) × (passed : Image) × HasPassed header written tables old passed
+    × (leaves_nothing tables old ≡ true) × TearsAtMost fault (SameOutside 72 8) passed new)
 
 -- the faults of its passes, whatever is known of the image's bytes
 abbrev pub IsPassFault : HeaderRecord → Fault → Type 0
 IsPassFault header fault =
     IsTableFault (l1_layout header) (l1_cluster header) fault ⊎ (fault ≡ CounterRange) ⊎ IsFromOutside fault
 
--- a repair of an image with this header ended in this answer. After a fault that isn't from outside no byte changed: the image
--- can't be repaired, or its header has no room
-pub record RepairsImage (header : HeaderRecord) (answer : Result HeaderRecord Fault) (old new : StorageState) : Type 0 where
+-- a repair of an image with this header ended in this answer, with all done that a value says. After a fault that isn't from
+-- outside no byte changed: the image can't be repaired, or its header has no room
+pub record EndsRepair {T : Type 0} (header : HeaderRecord) (IsDone : T → Image → Image → Type 0) (answer : Result T Fault) (old new : StorageState) : Type 0 where
   pub repairs : OnImages old new (λ before after. MatchResult answer
-      (λ written. IsRepaired header written before after)
+      (λ value. IsDone value before after)
       (λ fault. BreaksOffAt header fault before after))
   pub refused : IfErr answer (λ fault. OnImages old new (λ before after. IsFromOutside fault ⊎ ((after ≡ before)
       × ((repairable_tables header before ≡ Err fault) ⊎ (header_after_load true (Ok header) ≡ Err fault)
       ⊎ (repair_within header old.len before ≡ Err fault)))))
   pub faults : IfErr answer (λ fault. IsRepairRefusal header fault ⊎ IsWritableFault header fault)
   pub storage : ReportsFailures answer old new
+
+-- the same of a whole repair, with the marks
+abbrev pub RepairsImage : HeaderRecord → Result HeaderRecord Fault → StorageState → StorageState → Type 0
+RepairsImage header = EndsRepair header (IsRepaired header)

@@ -1,7 +1,7 @@
 //! Laws: facts about the definitions that contracts name. Each is a function that does nothing. Its
 //! contract is the law, and its name says it.
 
-ghost use Rattle.std.specs.Prelude.{◌≡◌, ◌≢◌, ℕ, ◌<◌, List, Ok};
+ghost use Rattle.std.specs.Prelude.{◌≡◌, ◌≢◌, ℕ, Bool, ◌<◌, List, Ok, true};
 ghost use Rattle.qcow2_base.specs.Format.{max_file_length};
 ghost use Rattle.qcow2_base.specs.Storage.{Image, IsBytes};
 ghost use Rattle.qcow2_base.specs.declared.fault.Fault.{Fault};
@@ -12,9 +12,9 @@ ghost use Rattle.qcow2_summary.specs.Consistency.{IsConsistent};
 ghost use Rattle.qcow2_check.specs.Counters.{counter_of};
 ghost use Rattle.qcow2_check.specs.Findings.{checked_tables};
 ghost use Rattle.qcow2_check.specs.Uses.{ImageTables, image_uses};
-ghost use Rattle.qcow2_repair.specs.Repair.{BreaksOffRepair, IsRepairable, MakesWritable, Repairs, tables_in};
+ghost use Rattle.qcow2_repair.specs.Repair.{BreaksOffRepair, EndsMarks, HasPassed, IsRepairable, MakesWritable, Repairs, tables_in};
 ghost use Rattle.qcow2_repair.specs.Left.{CountsUsed, HasTrueFlags, IsHighEnough, IsRightWhereCounted, LeavesWhole, MakesNoneTooLow, MakesNoneTooLowBeside};
-ghost use Rattle.qcow2_repair.specs.Refusals.{repairable_tables};
+ghost use Rattle.qcow2_repair.specs.Refusals.{leaves_nothing, repairable_tables};
 
 /// An image that `repair_image` doesn't refuse is repairable once its header is made writable. So the laws
 /// below hold for what that call does next.
@@ -60,14 +60,22 @@ pub fn a_repaired_image_is_consistent_where_blocks_count_all_uses()
         CountsUsed (tables_in header reftable old) old → IsConsistent (tables_in header reftable new) new }
 {}
 
-/// A repaired image can be checked: its L1 table, refcount table and L2 tables load, and no refcount block
-/// that it names would end past 2^56. These are the tables of the other laws here. So a check after a repair
-/// fails only if the storage fails or memory runs out.
+/// A repaired image can be checked, whether its marks are cleared or stay: its L1 table, refcount table and
+/// L2 tables load, and no refcount block that it names would end past 2^56. These are the tables of the other
+/// laws here. So a check after a repair fails only if the storage fails or memory runs out.
 pub fn a_repaired_image_can_be_checked()
-    ensures { (header written : HeaderRecord) (tables : ImageTables) (old mid new : Image) →
-        IsValidHeader header → IsBytes old → repairable_tables header old ≡ Ok tables →
-        MakesWritable header written old mid → Repairs written tables.reftable mid new →
-        checked_tables written new ≡ Ok (tables_in written tables.reftable new) }
+    ensures { (leaves_nothing : Bool) (header written left : HeaderRecord) (tables : ImageTables)
+        (old passed new : Image) → IsValidHeader header → IsBytes old →
+        HasPassed header written tables old passed → EndsMarks leaves_nothing written left passed new →
+        checked_tables left new ≡ Ok (tables_in left tables.reftable new) }
+{}
+
+/// A repair clears the marks `dirty` and `corrupt` only of a consistent image. It does so where it leaves
+/// nothing wrong, and then the image has no findings and no wrong copied flags after its passes.
+pub fn marks_are_cleared_only_of_a_consistent_image()
+    ensures { (header written : HeaderRecord) (tables : ImageTables) (old passed : Image) →
+        IsValidHeader header → IsBytes old → HasPassed header written tables old passed →
+        leaves_nothing tables old ≡ true → IsConsistent (tables_in written tables.reftable passed) passed }
 {}
 
 /// No step of a repair makes a refcount lower than its number of references: one that was at least that

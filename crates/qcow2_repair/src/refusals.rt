@@ -13,7 +13,7 @@ ghost use Rattle.qcow2_check.specs.NamedTables.{l1_cluster, l1_layout};
 ghost use Rattle.qcow2_check.specs.Uses.{image_tables};
 ghost use Rattle.qcow2_repair.specs.Repair.{IsRepairable};
 ghost use Rattle.qcow2_repair.specs.Flags.{IsL1TableOf};
-ghost use Rattle.qcow2_repair.specs.Refusals.{IsFindingRefusal, IsRepairRefusal, findings_refusal, header_refusal, refusal_of, repair_within, repairable_tables, unrefused_tables};
+ghost use Rattle.qcow2_repair.specs.Refusals.{IsFindingRefusal, IsRepairRefusal, are_counted, findings_refusal, header_refusal, leaves_nothing, refusal_of, repair_within, repairable_tables, unrefused_tables};
 
 use qcow2_base::{Device, Fault, Storage};
 use qcow2_check::{Finding, Findings, Tally, refuse_short_l1, refuse_tables_past_end};
@@ -48,28 +48,34 @@ fn check_finding(findings: &Findings<'_>, finding: &Finding) -> Result<(), Fault
     Ok(())
 }
 
-// Refuses the first of a reader's remaining findings that can't be made right.
-fn check_findings<S: Storage>(findings: &mut Findings<'_>, image: &mut S) -> Result<(), Fault>
+// Refuses the first of a reader's remaining findings that can't be made right. Returns whether refcount
+// blocks count the clusters of all of them.
+fn check_findings<S: Storage>(findings: &mut Findings<'_>, image: &mut S) -> Result<bool, Fault>
     requires { OnImage (S.state image.old) (λ bytes. IsFindingsOf bytes findings.old) }
     ensures reads { let reader = findings.old in
-        Reads (λ done. done) result (λ bytes. unless_refused
-        (findings_refusal reader.header reader.counters.reftable (findings_left reader bytes)) (Ok tt))
+        Reads (λ _. tt {0}) result (λ bytes. unless_refused
+        (findings_refusal reader.header reader.counters.reftable (findings_left reader bytes)) (Ok (tt {0})))
         IsFindingRefusal (S.state image.old) (S.state image.new) }
+    ensures counted { let reader = findings.old in
+        IfOk result (λ leaves_nothing. OnImage (S.state image.old) (λ bytes. leaves_nothing
+        ≡ are_counted reader.header reader.counters.reftable (findings_left reader bytes))) }
     ensures reader { MovesFindings (S.state image.old) findings.old findings.new }
 {
+    let mut leaves_nothing = true;
     while let Some(finding) = findings.next(image)? {
         check_finding(findings, &finding)?;
+        leaves_nothing = leaves_nothing && findings.has_block(finding.cluster);
     }
-    Ok(())
+    Ok(leaves_nothing)
 }
 
-// Loads the L1 table and the refcount table of an image whose findings can all be made right, with the last
-// counted references. Doesn't test whether the L1 table is too short.
+// Loads the L1 table and the refcount table of an image whose findings aren't refused, with the last counted
+// references, and says whether a repair leaves nothing wrong. Doesn't test whether the L1 table is too short.
 fn unrefused_tables<S: Storage>(
     alloc: Global,
     image: &mut S,
     header: &Header,
-) -> Result<(L1Table, RefTable, Option<Tally>), Fault>
+) -> Result<(L1Table, RefTable, Option<Tally>, bool), Fault>
     ensures reads { Reads (λ found. image_tables header.now found.0.numbers found.1.numbers) result
         (unrefused_tables header.now) (IsRepairRefusal header.now) (S.state image.old) (S.state image.new) }
     ensures reftable { IfOk result (λ found. IsPlacedReftable header.now found.1) }
@@ -78,13 +84,15 @@ fn unrefused_tables<S: Storage>(
     ensures l1_table { IfOk result (λ found. IsL1TableOf header.now (S.state image.old) found.0
         × (place_fault (l1_layout header.now) (l1_cluster header.now) ≡ None)) }
     ensures counted { IfOk result (λ found. OnImage (S.state image.old) (λ bytes.
-        IfSome found.2 (CountsAll (image_tables header.now found.0.numbers found.1.numbers) bytes))) }
+        let tables = image_tables header.now found.0.numbers found.1.numbers in
+        IfSome found.2 (CountsAll tables bytes) × (found.3 ≡ leaves_nothing tables bytes))) }
 {
     prove!(header.cluster_bits() <= 21);
     prove!(header.refcount_order() <= 6);
     let mut findings = Findings::new(alloc, image, header)?;
-    check_findings(&mut findings, image)?;
-    Ok(findings.into_parts())
+    let leaves_nothing = check_findings(&mut findings, image)?;
+    let (l1_table, reftable, tally) = findings.into_parts();
+    Ok((l1_table, reftable, tally, leaves_nothing))
 }
 
 /// Refuses an image that can't be repaired whatever its tables say: one with snapshots, bitmaps or LUKS
@@ -112,7 +120,8 @@ pub(crate) fn refuse_past_end<S: Device>(
 }
 
 /// Loads the L1 table and the refcount table of an image that can be repaired, with the last counted
-/// references if any are held.
+/// references if any are held, and says whether a repair leaves nothing wrong: refcount blocks count each
+/// cluster at which something is.
 ///
 /// Returns the fault of `refuse_unrepairable` or of `Findings::new`, or that of the first cluster that can't
 /// be repaired: 38 if its references exclude each other, 30 if its refcount can't hold their number. Changes
@@ -121,7 +130,7 @@ pub(crate) fn repairable_tables<S: Storage>(
     alloc: Global,
     image: &mut S,
     header: &Header,
-) -> Result<(L1Table, RefTable, Option<Tally>), Fault>
+) -> Result<(L1Table, RefTable, Option<Tally>, bool), Fault>
     ensures reads { Reads (λ found. image_tables header.now found.0.numbers found.1.numbers) result
         (repairable_tables header.now) (IsRepairRefusal header.now) (S.state image.old) (S.state image.new) }
     ensures reftable { IfOk result (λ found. IsPlacedReftable header.now found.1) }
@@ -130,7 +139,8 @@ pub(crate) fn repairable_tables<S: Storage>(
     ensures l1_table { IfOk result (λ found. IsL1TableOf header.now (S.state image.old) found.0
         × (place_fault (l1_layout header.now) (l1_cluster header.now) ≡ None)) }
     ensures counted { IfOk result (λ found. OnImage (S.state image.old) (λ bytes.
-        IfSome found.2 (CountsAll (image_tables header.now found.0.numbers found.1.numbers) bytes))) }
+        let tables = image_tables header.now found.0.numbers found.1.numbers in
+        IfSome found.2 (CountsAll tables bytes) × (found.3 ≡ leaves_nothing tables bytes))) }
 {
     refuse_unrepairable(header)?;
     unrefused_tables(alloc, image, header)

@@ -1,15 +1,16 @@
 //! Repairs of an image's refcounts and copied flags.
 
-ghost use Rattle.std.specs.Prelude.{◌≡◌, ◌⊎◌, Err, IfErr, IfOk, IfSome, MatchResult, None, Ok, OnOk, true};
-ghost use Rattle.qcow2_base.specs.Storage.{Image, OnImage, OnImages};
+ghost use Rattle.std.specs.Prelude.{◌≡◌, ◌⊎◌, Err, IfErr, IfOk, IfSome, IsOkUnless, MatchResult, None, Ok, OnOk, true};
+ghost use Rattle.qcow2_base.specs.Storage.{Image, OnImage, OnImages, SameOutside};
+ghost use Rattle.qcow2_base.specs.declared.fault.Fault.TheVariants.{Storage as StorageFailed};
 ghost use Rattle.qcow2_metadata.specs.Header.Open.{header_after_load};
 ghost use Rattle.qcow2_metadata.specs.Placed.{place_fault};
 ghost use Rattle.qcow2_metadata.specs.Results.{IsFromOutside};
 ghost use Rattle.qcow2_check.specs.Findings.{CountsAll};
 ghost use Rattle.qcow2_check.specs.ImageTables.{IsPlacedReftable};
 ghost use Rattle.qcow2_check.specs.NamedTables.{l1_cluster, l1_layout};
-ghost use Rattle.qcow2_repair.specs.Repair.{BreaksOffCounters, BreaksOffRepair, IsPassFault, IsRepairFault, IsRepairable, Lowers, Raises, Repairs, RepairsImage, tables_in};
-ghost use Rattle.qcow2_check.specs.Failures.{RefusesAs, ReportsFailures};
+ghost use Rattle.qcow2_repair.specs.Repair.{BreaksOffCounters, BreaksOffRepair, ClearsMarks, EndsRepair, IsPassFault, IsRepairFault, IsRepairable, Lowers, Raises, Repairs, RepairsImage, TellsPassed, tables_in};
+ghost use Rattle.qcow2_check.specs.Failures.{RefusesAs, ReportsFailures, TearsAtMost};
 ghost use Rattle.qcow2_repair.specs.Flags.{IsL1TableOf};
 ghost use Rattle.qcow2_repair.specs.Refusals.{repair_within, repairable_tables};
 
@@ -30,15 +31,16 @@ use std::alloc::Global;
 /// Returns the header that the image has then. The call first clears the autoclear features, as
 /// `Header::into_writable` does, and then makes four passes: it clears the copied flags of clusters that
 /// don't have exactly one reference, raises refcounts, lowers refcounts, and sets the flags of clusters that
-/// have exactly one. `Device::sync` puts each step on the device before the next writes anything. Nothing
-/// else changes.
+/// have exactly one. Last it clears the marks `dirty` and `corrupt`, as `Header::clear_marks` does, if the
+/// header has any and nothing stays wrong: refcount blocks count each cluster at which something was wrong.
+/// `Device::sync` puts each step on the device before the next writes anything. Nothing else changes.
 ///
 /// Returns the fault of `refuse_unrepairable`, of `refuse_tables_past_end` or of `Findings::new`, or that of
 /// the first cluster that can't be repaired: 38 if its references exclude each other, 30 if its refcount
 /// can't hold their number. After these come 24 if the header has no room, and 25 for a name that no loaded
 /// header has. None of these faults changes a byte. If memory runs out, some steps may be done, and each
 /// refcount and each entry is the old one or that of its step. If the storage fails, any bytes may also be in
-/// the text of the header, or in one table or block.
+/// the text of the header, in the field of its marks, or in one table or block.
 pub fn repair_image<S: Device>(
     alloc: Global,
     image: &mut S,
@@ -56,10 +58,42 @@ pub fn repair_image<S: Device>(
 fn repair_whole<S: Device>(alloc: Global, image: &mut S, header: Header) -> Result<Header, Fault>
     ensures { RepairsImage header result (S.state image.old) (S.state image.new) }
 {
-    let (mut l1_table, reftable, tally) = repairable_tables(alloc, image, &header)?;
+    let (mut header, leaves_nothing) = repair_marked(alloc, image, header)?;
+    if leaves_nothing {
+        clear_marks(image, &mut header)?;
+    }
+    Ok(header)
+}
+
+// The same without the marks. Returns the header that the image has then, and whether nothing stays wrong.
+fn repair_marked<S: Device>(
+    alloc: Global,
+    image: &mut S,
+    header: Header,
+) -> Result<(Header, bool), Fault>
+    ensures { EndsRepair header (λ done. TellsPassed header done.0 done.1) result
+        (S.state image.old) (S.state image.new) }
+{
+    let (mut l1_table, reftable, tally, leaves_nothing) = repairable_tables(alloc, image, &header)?;
     let header = header.into_writable(image)?;
     repair_written(image, &header, &mut l1_table, &reftable, tally)?;
-    Ok(header)
+    Ok((header, leaves_nothing))
+}
+
+// Clears the marks of a repaired image, and syncs it to the device, if it has any.
+fn clear_marks<S: Device>(image: &mut S, header: &mut Header) -> Result<(), Fault>
+    ensures marks { OnImages (S.state image.old) (S.state image.new) (λ before after. MatchResult result
+        (λ _. ClearsMarks header.old header.new before after)
+        (λ fault. TearsAtMost fault (SameOutside 72 8) before after)) }
+    ensures fault { IsOkUnless result StorageFailed }
+    ensures storage { ReportsFailures result (S.state image.old) (S.state image.new) }
+{
+    if !header.is_marked() {
+        return Ok(());
+    }
+    header.clear_marks(image)?;
+    image.sync()?;
+    Ok(())
 }
 
 // Syncs the writable header to the device, and then makes the refcounts and copied flags of the image right.

@@ -176,7 +176,7 @@ pub repaired-outside : {O : Type 0} (header written : HeaderRecord) (answer : Re
 repaired-outside header written (Ok verdict) contents old left new a b valid bytes repairs prints = tt
 repaired-outside header written (Err fault) contents old left new a b valid bytes repairs prints = λ told.
     let is : IsRepaired header written old.byte_at left.byte_at = repairs.repairs told in
-    let found = checkable-repaired header written is.0 old.byte_at is.1 left.byte_at valid bytes is.2 is.3 is.4 in
+    let found = checkable-repaired _ header is.0 written is.1 old.byte_at is.2 left.byte_at valid bytes is.3 is.4 in
     elim (prints.refused (rw repairs.storage.device.tells told)) [
       | inl meant ↦ absurd (grind (arith, found, meant.0))
       | inr outside ↦ outside.0

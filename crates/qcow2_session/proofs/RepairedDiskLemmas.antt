@@ -4,11 +4,13 @@ use Rattle.qcow2_base.specs.Storage.{Image, IsBytes}
 use Rattle.qcow2_base.specs.declared.fault.Fault.{Fault}
 use Rattle.qcow2_base.specs.declared.types.HostCluster.{HostCluster}
 use Rattle.qcow2_metadata.proofs.CopiedLemmas.{is_compressed-with_copied, is_copied-with_copied, is_zero-with_copied, offset_field-with_copied}
+use Rattle.qcow2_metadata.proofs.MarksLemmas.{unmarked-geometry}
 use Rattle.qcow2_metadata.proofs.WritableLemmas.{writable-same}
 use Rattle.qcow2_metadata.specs.Entries.{is_copied, with_copied}
 use Rattle.qcow2_metadata.specs.Entries.L2Entry.{is_allocated, is_compressed, is_zero, l2_fault}
 use Rattle.qcow2_metadata.specs.Entries.L2Mapping.{host_cluster, mapping, standard_mapping}
 use Rattle.qcow2_metadata.specs.Header.{Geometry, HeaderRecord, IsValidHeader, geometry_of}
+use Rattle.qcow2_metadata.specs.Header.Marks.{without_marks}
 use Rattle.qcow2_metadata.specs.Header.Open.{SaysSame}
 use Rattle.qcow2_metadata.specs.Placed.{place_fault}
 use Rattle.qcow2_metadata.specs.Results.{result_map, unless_refused}
@@ -21,14 +23,15 @@ use Rattle.qcow2_repair.proofs.CheckableLemmas.{checkable-repaired}
 use Rattle.qcow2_repair.proofs.FlagWindowsLemmas.{names-same}
 use Rattle.qcow2_repair.proofs.FlagsLemmas.{passed_cases}
 use Rattle.qcow2_repair.proofs.FoundLemmas.{checked-parts, found-repairable, repairable-found-written}
-use Rattle.qcow2_repair.proofs.HeaderLemmas.{geometry-said, l2-past-first, repairable-l1, repairable-written, text-fits}
+use Rattle.qcow2_repair.proofs.HeaderLemmas.{first-l1-stays, geometry-said, l2-past-first, repairable-l1, repairable-written, text-fits}
+use Rattle.qcow2_repair.proofs.MarksLemmas.{field-fits, repairable-cleared, within-first}
 use Rattle.qcow2_repair.proofs.OrderLemmas.{l1-stays}
 use Rattle.qcow2_repair.proofs.RepairLemmas.{entry-loads, table-stays}
 use Rattle.qcow2_repair.proofs.StagesLemmas.{counters-step, flags-step, stages}
 use Rattle.qcow2_repair.specs.Counters.{IsOutsideBlocks}
 use Rattle.qcow2_repair.specs.Flags.{FlagPassState, NamesTable, PassesFlags, l1_in, l2_due, l2_in, pass_all, passed_l2, with_due}
-use Rattle.qcow2_repair.specs.Refusals.{repairable_tables}
-use Rattle.qcow2_repair.specs.Repair.{IsRepairable, IsRepaired, MakesWritable, Repairs, tables_in}
+use Rattle.qcow2_repair.specs.Refusals.{leaves_nothing, repairable_tables}
+use Rattle.qcow2_repair.specs.Repair.{ClearsMarks, EndsMarks, IsRepairable, IsRepaired, MakesWritable, Repairs, tables_in}
 use Rattle.qcow2_session.specs.RepairedDisk.{ReadSame, without_flag}
 
 -- the flag says nothing of what a standard entry reads as
@@ -179,12 +182,41 @@ written-reads header written tables old mid valid bytes is makes o =
     (l2-past-first (image_tables header tables.l1 tables.reftable) old mid _ table here makes.others (text-fits header) (rw (sym same) at names)))
     o)
 
+-- and after its marks are cleared
+cleared-reads : (header left : HeaderRecord) (reftable : List ℕ) (old new : Image) → IsRepairable (tables_in header reftable old) old
+    → ClearsMarks header left old new → (o : ℕ)
+    → ReadSame (guest_mapping (geometry_of (without_marks header)) (l1_in header new) o new)
+    (guest_mapping (geometry_of header) (l1_in header old) o old)
+cleared-reads header left reftable old new is clears o =
+    let tables = tables_in header reftable old in
+    let outside = within-first old new clears.others in
+    let fits = field-fits header.v2.cluster_bits is.bits in
+    let l1 : l1_in header new ≡ l1_in header old = first-l1-stays tables old new 80 is outside fits in
+    let geometry = unmarked-geometry header in
+    let loads : all_load (geometry_of header) (l1_in header new) new ≡ Ok tt =
+    subst (λ g. all_load g (l1_in header new) new ≡ Ok tt) geometry (repairable-cleared header left reftable old new is clears).loads in
+    subst (λ g. ReadSame (guest_mapping g (l1_in header new) o new) (guest_mapping (geometry_of header) (l1_in header old) o old)) (sym geometry)
+    (tables-read header (l1_in header old) (l1_in header new) old new is.loads loads
+    (λ k. ap (λ l1. named_cluster header.v2.cluster_bits (slice_index l1 k)) l1)
+    (λ table names guest k. ap (λ numbers. without_flag (mapping (geometry_of header) guest (slice_index numbers k)))
+    (l2-past-first tables old new 80 table is outside fits names))
+    o)
+
+ended-reads : (nothing : Bool) (header left : HeaderRecord) (reftable : List ℕ) (old new : Image) → IsRepairable (tables_in header reftable old) old
+    → EndsMarks nothing header left old new → (o : ℕ)
+    → ReadSame (guest_mapping (geometry_of left) (l1_in left new) o new) (guest_mapping (geometry_of header) (l1_in header old) o old)
+ended-reads false header left reftable old new is ends o = rw (ends.0, ends.1) refl
+ended-reads true header left reftable old new is ends o = rw ends.becomes (cleared-reads header left reftable old new is ends o)
+
 -- so a repair keeps what each guest offset reads as, but for its flag
-pub repaired-reads : (header written : HeaderRecord) (old new : Image) → IsValidHeader header → IsBytes old → IsRepaired header written old new → (o : ℕ)
-    → ReadSame (mapping_in written o new) (mapping_in header o old)
-repaired-reads header written old new valid bytes (tables, mid, is, makes, repair) o =
+pub repaired-reads : (header left : HeaderRecord) (old new : Image) → IsValidHeader header → IsBytes old → IsRepaired header left old new → (o : ℕ)
+    → ReadSame (mapping_in left o new) (mapping_in header o old)
+repaired-reads header left old new valid bytes (written, tables, passed, (mid, is, makes, repair), ends) o =
     let start = repairable-found-written header written tables old mid valid bytes is makes in
     let before : loaded_l1_table header old ≡ Ok (l1_in header old) = (repairable-l1 header tables old is).0 in
-    let after : loaded_l1_table written new ≡ Ok (l1_in written new)
-    = (checked-parts written new (tables_in written tables.reftable new) (checkable-repaired header written tables old mid new valid bytes is makes repair)).l1 in
-    rw (before, after) (passes-read written tables.reftable mid new start repair o ∙ written-reads header written tables old mid valid bytes is makes o)
+    let after : loaded_l1_table left new ≡ Ok (l1_in left new)
+    = (checked-parts left new (tables_in left tables.reftable new)
+    (checkable-repaired (leaves_nothing tables old) header written left tables old passed new valid bytes (mid, is, makes, repair) ends)).l1 in
+    rw (before, after) (ended-reads (leaves_nothing tables old) written left tables.reftable passed new
+    (stages written tables.reftable mid passed repair start).four.is ends o
+    ∙ passes-read written tables.reftable mid passed start repair o ∙ written-reads header written tables old mid valid bytes is makes o)

@@ -189,26 +189,9 @@ impl Command {
             | Command::Tables
             | Command::Layout { .. }
             | Command::Refcount { .. }
-            | Command::Check {
-                form: CheckForm::Text | CheckForm::Json { .. },
-            } => AcceptedFeatures {
-                dirty: true,
-                corrupt: true,
-                compression_type: true,
-            },
-            Command::Check {
-                form: CheckForm::Repair,
-            }
-            | Command::Apply { .. } => AcceptedFeatures {
-                dirty: false,
-                corrupt: false,
-                compression_type: true,
-            },
-            _ => AcceptedFeatures {
-                dirty: false,
-                corrupt: false,
-                compression_type: false,
-            },
+            | Command::Check { .. }
+            | Command::Apply { .. } => AcceptedFeatures::each(),
+            _ => AcceptedFeatures::none(),
         }
     }
 

@@ -254,8 +254,8 @@ pub fn refused_images() -> [&'static [Refused]; 4] {
 }
 
 /// All images to repair, in lists.
-pub fn repairs() -> [&'static [Repair]; 2] {
-    [repaired::counts(), repaired::flags()]
+pub fn repairs() -> [&'static [Repair]; 3] {
+    [repaired::counts(), repaired::flags(), repaired::marked()]
 }
 
 /// Images for each step of a repair, and one that needs none.

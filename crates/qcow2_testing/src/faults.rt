@@ -84,4 +84,6 @@ pub const FAULTS: &[ReportedFault] = faults! {
         "an L2 table that is edited must have no other reference, that of edit 5000000003 may have one",
     Fault::L1Short => 41 InvalidData
         "the L1 table must have an entry for each part of the disk, it has too few",
+    Fault::Marked => 42 Other
+        "an image that is changed must not be marked dirty or corrupt, it must be repaired first",
 };

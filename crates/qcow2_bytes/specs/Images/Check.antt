@@ -8,9 +8,9 @@ use Rattle.qcow2_check.specs.Totals.{totals_on}
 use Rattle.qcow2_check.specs.Uses.{ImageTables}
 use Rattle.qcow2_check.specs.declared.findings.Finding.{Finding}
 use Rattle.qcow2_check.specs.declared.totals.Totals.{Totals}
-use Rattle.qcow2_metadata.specs.Header.Grammar.{header_of}
 use Rattle.qcow2_metadata.specs.Results.{IsFromOutside, and_then}
 use Rattle.qcow2_metadata.specs.Table.L2Guards.{one_if}
+use Rattle.qcow2_bytes.specs.Header.{any_header_of}
 use Rattle.qcow2_bytes.specs.Images.Extents.{IsPutOver}
 use Rattle.qcow2_bytes.specs.declared.images.check.CheckTotals.{CheckTotals}
 use Rattle.qcow2_bytes.specs.declared.images.check.FindingFields.{FindingFields}
@@ -42,7 +42,7 @@ check_totals tables image = totals_in_fields (length (image_findings tables imag
 
 -- the tables of an image that can be checked, or the first fault, of its header or of its tables
 abbrev pub tables_at : Image → Result ImageTables Fault
-tables_at image = and_then (header_of image) (λ header. checked_tables header image)
+tables_at image = and_then (any_header_of image) (λ header. checked_tables header image)
 
 -- a list begins with the first of these items, as many as it has room for, and goes on as it was
 abbrev pub AreFirstPut : {T : Type 0} → List T → List T → List T → Type 0

@@ -8,8 +8,8 @@ use Rattle.qcow2_image.specs.declared.extents.Content.{Content}
 use Rattle.qcow2_image.specs.declared.extents.Content.TheVariants.{Absent, AllocatedZeros, Compressed, Data, Zeros}
 use Rattle.qcow2_image.specs.declared.extents.Extent.{Extent}
 use Rattle.qcow2_metadata.specs.Header.{HeaderRecord, geometry_of}
-use Rattle.qcow2_metadata.specs.Header.Grammar.{header_of}
 use Rattle.qcow2_metadata.specs.Results.{IsFromOutside, and_then, result_map}
+use Rattle.qcow2_bytes.specs.Header.{any_header_of}
 use Rattle.qcow2_bytes.specs.declared.images.extents.CutShort.{CutShort}
 use Rattle.qcow2_bytes.specs.declared.images.extents.ExtentFields.{ExtentFields}
 
@@ -56,7 +56,7 @@ guest_disk_in header image = result_map
 
 -- the disk of an image, or why its header or its L1 table is refused
 abbrev pub guest_disk : Image → Result GuestDisk Fault
-guest_disk image = and_then (header_of image) (λ header. guest_disk_in header image)
+guest_disk image = and_then (any_header_of image) (λ header. guest_disk_in header image)
 
 -- a list begins with these items, and goes on as it was
 abbrev pub IsPutOver : {T : Type 0} → List T → List T → List T → Type 0

@@ -3,7 +3,7 @@ use Rattle.std.specs.Prelude.{◌≡◌, ◌⊎◌, ℕ, Bool, true, false, not,
 use Rattle.std.specs.List.{list_any}
 use Rattle.qcow2_base.specs.Storage.{image_of}
 use Rattle.qcow2_base.specs.declared.fault.Fault.{Fault}
-use Rattle.qcow2_base.specs.declared.fault.Fault.TheVariants.{NoMemory, VersionNeeded, WrongLength}
+use Rattle.qcow2_base.specs.declared.fault.Fault.TheVariants.{Marked, NoMemory, VersionNeeded, WrongLength}
 use Rattle.qcow2_edits.specs.Edits.{edits_or_refusal}
 use Rattle.qcow2_edits.specs.declared.edits.Edit.{Edit}
 use Rattle.qcow2_edits.specs.declared.edits.Edit.TheVariants.{Discard, Map, Zero}
@@ -38,11 +38,18 @@ edit_said cb fields =
 abbrev pub says_zeros : EditFields → Bool
 says_zeros fields = fields.kind == 2 || fields.kind == 3
 
+-- whether these fields mark their image dirty or corrupt, by bits 0 and 1
+abbrev pub is_marked_in : HeaderFields → Bool
+is_marked_in fields = not (fields.incompatible_features % 4 == 0)
+
 -- what the bytes of a table are edited by: the geometry of a header's fields, or why they aren't edited
 abbrev pub edit_geometry : HeaderFields → List EditFields → List ℕ → Result Geometry Fault
 edit_geometry fields edits bytes =
     after_conditions ((nat_le 3 fields.version || not (list_any says_zeros edits), VersionNeeded) ∷ []) (λ _.
-    and_then (geometry_in fields) (λ g. after_conditions ((length bytes == 2 ^ g.cluster_bits, WrongLength) ∷ []) (λ _. Ok g)))
+    and_then (geometry_in fields) (λ g. after_conditions (
+    (not (is_marked_in fields), Marked)
+    ∷ (length bytes == 2 ^ g.cluster_bits, WrongLength)
+    ∷ []) (λ _. Ok g)))
 
 -- the L2 table that has these bytes
 abbrev pub table_of_bytes : Geometry → List ℕ → TableState

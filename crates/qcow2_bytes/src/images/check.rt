@@ -8,7 +8,7 @@ ghost use Rattle.qcow2_check.specs.Totals.{finding_totals};
 ghost use Rattle.qcow2_metadata.specs.Results.{IsFromOutside};
 ghost use Rattle.qcow2_bytes.specs.Images.Check.{AreFirstPut, IsCheckRefusal, PutsFindings, finding_fields, tables_at, totals_in_fields};
 
-use crate::header::without_storage_fault;
+use crate::header::{load_any_header, without_storage_fault};
 use qcow2_base::{Fault, SliceStorage, Storage};
 use qcow2_check::{Finding, Findings, Totals};
 use qcow2_metadata::Header;
@@ -81,7 +81,7 @@ fn check_bytes<S: Storage>(
         PutsFindings (tables_at bytes) bytes findings.old findings.new result) }
     ensures faults { IfErr result (λ fault. IsFromOutside fault ⊎ IsCheckRefusal fault) }
 {
-    let header = Header::load(alloc, image, false)?;
+    let header = load_any_header(alloc, image)?;
     check_with_header(alloc, image, &header, findings)
 }
 

@@ -8,7 +8,7 @@ ghost use Rattle.qcow2_image.specs.Lookups.{IsImageFault};
 ghost use Rattle.qcow2_metadata.specs.Results.{IsFromOutside};
 ghost use Rattle.qcow2_bytes.specs.Images.Extents.{PutsDiskExtents, PutsExtents, disk_for, extent_fields, guest_disk, guest_disk_in};
 
-use crate::header::without_storage_fault;
+use crate::header::{load_any_header, without_storage_fault};
 use qcow2_base::{Fault, GuestOffset, SliceStorage, Storage};
 use qcow2_image::{Content, Extent, Extents};
 use qcow2_metadata::Header;
@@ -99,7 +99,7 @@ fn put_extents<S: Storage>(
         PutsDiskExtents (guest_disk bytes) from.0 extents.old extents.new result) }
     ensures faults { IfErr result (λ cut. IsFromOutside cut.fault ⊎ IsImageFault cut.fault) }
 {
-    match Header::load(alloc, image, false) {
+    match load_any_header(alloc, image) {
         Ok(header) => put_with_header(alloc, image, &header, from, extents),
         Err(fault) => Err(CutShort { count: 0, fault }),
     }

@@ -10,7 +10,7 @@ ghost use Rattle.qcow2_metadata.specs.Header.{geometry, geometry_of};
 ghost use Rattle.qcow2_metadata.specs.Results.{Computes, result_map};
 ghost use Rattle.qcow2_metadata.specs.Table.{l2_entries, table_numbers};
 ghost use Rattle.qcow2_bytes.specs.Images.Extents.{IsPutOver};
-ghost use Rattle.qcow2_bytes.specs.Tables.Edit.{AnswersEdits, EditsBytes, edit_geometry, edit_said, host_clusters, run_of_bytes, says_zeros, table_of_bytes};
+ghost use Rattle.qcow2_bytes.specs.Tables.Edit.{AnswersEdits, EditsBytes, edit_geometry, edit_said, host_clusters, is_marked_in, run_of_bytes, says_zeros, table_of_bytes};
 
 use crate::entries::first_bad;
 use crate::{BadEntry, HeaderFields, HostClusters};
@@ -62,11 +62,12 @@ pub enum EditRefusal {
 /// entry refers to it, or the table itself lies there. Zeros that keep a host cluster still free compressed
 /// data.
 ///
-/// Refuses zeros in an image of version 2 (27), then fields that no header has (3, 17), then bytes whose
-/// number isn't the cluster size (31), and the first invalid entry in them (18, 19). Then refuses the first
-/// edit of an unknown kind, past the table's end, or to an offset that isn't a multiple of the cluster size
-/// or that an entry can't hold (32), and then lists that are too short. Takes memory for the table, the edits
-/// and the outcome. After any refusal no byte and no element has changed.
+/// Refuses zeros in an image of version 2 (27), then fields that no header has (3, 17), then those of an
+/// image that is marked dirty or corrupt (42), then bytes whose number isn't the cluster size (31), and the
+/// first invalid entry in them (18, 19). Then refuses the first edit of an unknown kind, past the table's
+/// end, or to an offset that isn't a multiple of the cluster size or that an entry can't hold (32), and then
+/// lists that are too short. Takes memory for the table, the edits and the outcome. After any refusal no byte
+/// and no element has changed.
 #[tactic(auto, using(crate::proofs::EditLemmas::whole_entries))]
 pub fn edit_l2_table(
     alloc: Global,
@@ -126,8 +127,18 @@ impl EditFields {
     }
 }
 
+impl HeaderFields {
+    // Whether the image is marked dirty or corrupt.
+    fn is_marked(&self) -> bool
+        ensures { result ≡ is_marked_in self.now }
+    {
+        self.incompatible_features % 4 != 0
+    }
+}
+
 // The cluster bits, and whether guest data lies in an external data file. Refuses zeros in version 2 (27),
-// fields that no header has (3, 17), and a number of bytes that isn't the cluster size (31).
+// fields that no header has (3, 17), those of a marked image (42), and a number of bytes that isn't the
+// cluster size (31).
 fn edit_geometry(
     bytes: &[u8],
     fields: &HeaderFields,
@@ -142,6 +153,9 @@ fn edit_geometry(
         return Err(Fault::VersionNeeded);
     }
     let (cluster_bits, external) = fields.geometry()?;
+    if fields.is_marked() {
+        return Err(Fault::Marked);
+    }
     if bytes.len() != 1 << cluster_bits {
         return Err(Fault::WrongLength);
     }

@@ -18,11 +18,11 @@ pub(crate) fn check_edits(
     let words = drawn::disk_edits(trial.alloc, &trial.fields, &readings.listed, random)?;
     let line = format!(in trial.alloc; "apply IMAGE plan{words}")?;
     let plan = trial.run(Kind::Plan, line.as_str())?;
-    let holds = plan.is_err() || !trial.fields.is_l1_short();
+    let holds = plan.is_err() || !trial.fields.is_l1_short() && !trial.fields.is_marked();
     trial.unless(
         holds,
         line.as_str(),
-        "a fault, as the L1 table is too short",
+        "a fault, as the L1 table is too short or the image is marked",
         "none",
     );
     let planned = trial.take_printed();

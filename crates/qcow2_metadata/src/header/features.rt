@@ -1,6 +1,7 @@
 //! Features: optional properties of an image, each with a bit in one of three header fields.
 
 ghost use Rattle.std.specs.Prelude.{◌≡◌, ◌^◌};
+ghost use Rattle.qcow2_metadata.specs.Header as spec;
 ghost use Rattle.qcow2_metadata.specs.declared.header.features.FeatureType.TheVariants.{Autoclear, Compatible, Incompatible};
 ghost use Rattle.qcow2_metadata.specs.Header.Features.{HasNumber, autoclear_bit, compatible_bit, feature_type_number, incompatible_bit};
 
@@ -118,6 +119,30 @@ pub struct AcceptedFeatures {
     pub corrupt: bool,
     /// Compressed clusters have another compression than the default. Which one, the byte at 104 says.
     pub compression_type: bool,
+}
+
+impl AcceptedFeatures {
+    /// No feature: [`Header::load`](super::Header::load) accepts these.
+    pub fn none() -> AcceptedFeatures
+        ensures { result ≡ spec.no_feature }
+    {
+        AcceptedFeatures {
+            dirty: false,
+            corrupt: false,
+            compression_type: false,
+        }
+    }
+
+    /// Each feature that can be accepted.
+    pub fn each() -> AcceptedFeatures
+        ensures { result ≡ spec.each_feature }
+    {
+        AcceptedFeatures {
+            dirty: true,
+            corrupt: true,
+            compression_type: true,
+        }
+    }
 }
 
 /// Compatible features. The number of each is its bit as a mask, `2^bit`.

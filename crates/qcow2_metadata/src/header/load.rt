@@ -35,12 +35,7 @@ impl Header {
     pub fn load<S: Storage>(alloc: Global, image: &mut S, writable: bool) -> Result<Header, Fault>
         ensures { Loads writable result (S.state image.old) (S.state image.new) }
     {
-        let accepted = AcceptedFeatures {
-            dirty: false,
-            corrupt: false,
-            compression_type: false,
-        };
-        Header::load_accepting(alloc, image, writable, accepted)
+        Header::load_accepting(alloc, image, writable, AcceptedFeatures::none())
     }
 
     /// Loads the header of an image as [`Header::load`] does, and accepts some incompatible features that

@@ -10,13 +10,12 @@ use Rattle.qcow2_base.specs.Storage.{Image, OnImage, OnImages, StorageState}
 use Rattle.qcow2_base.specs.declared.fault.Fault.{Fault}
 use Rattle.qcow2_base.specs.declared.fault.Fault.TheVariants.{BadEdit, NoMemory}
 use Rattle.qcow2_check.specs.Failures.{RefusesAs, ReportsFailures}
-use Rattle.qcow2_check.specs.L1Length.{short_l1_refusal}
 use Rattle.qcow2_edits.specs.Edits.{cluster_numbers}
-use Rattle.qcow2_metadata.specs.Header.{HeaderRecord, any_compression, uses_external_data}
+use Rattle.qcow2_metadata.specs.Header.{HeaderRecord, each_feature, uses_external_data}
 use Rattle.qcow2_metadata.specs.Header.BitmapCount.{consistent_bitmaps}
 use Rattle.qcow2_metadata.specs.Results.{IsFromOutside}
 use Rattle.qcow2_apply.specs.Apply.{EditsDisk}
-use Rattle.qcow2_apply.specs.GuestEdits.{guest_edit_fits}
+use Rattle.qcow2_apply.specs.GuestEdits.{disk_refusal, guest_edit_fits}
 use Rattle.qcow2_apply.specs.Plan.{IsPlanOf, RefusesEdits, edits_within}
 use Rattle.qcow2_apply.specs.declared.changed_clusters.ChangedClusters.{ChangedClusters}
 use Rattle.qcow2_apply.specs.declared.changed_clusters.KeptCluster.{KeptCluster}
@@ -114,10 +113,10 @@ abbrev pub first_unfit_within : ℕ → HeaderRecord → List DiskEdit → Optio
 first_unfit_within len header edits = position (λ edit. not (fits_within len header edit)) edits
 
 -- why edits can't be made of the disk of an image with this header and of this length, if they can't, whatever its tables are:
--- the L1 table is too short, or the first edit that doesn't fit the disk or maps a cluster past the end. With an external data
--- file clusters lie elsewhere, and the edits are refused for that
+-- it is marked, its L1 table is too short, or the first edit doesn't fit the disk or maps a cluster past the end. With an
+-- external data file clusters lie elsewhere, and the edits are refused for that
 abbrev pub maps_refusal : List DiskEdit → HeaderRecord → ℕ → Option Fault
-maps_refusal edits header len = option_or (short_l1_refusal header)
+maps_refusal edits header len = option_or (disk_refusal header)
     (if uses_external_data header then None else option_map BadEdit (first_unfit_within len header edits))
 
 -- the line of a cluster that lost a reference and has others: with its counter
@@ -178,5 +177,5 @@ EndsApply form edits header run = RunsOut run ⊎ ((done : Result ChangedCluster
 abbrev pub apply_facts : ApplyForm → List DiskEdit → CommandFacts
 apply_facts form edits = record (plain_facts (λ O header run. EndsApply form edits header run)) {
   changes_image = makes_edits form;
-  accepts = any_compression;
+  accepts = each_feature;
 }

@@ -11,9 +11,8 @@ use Rattle.qcow2_check.specs.Findings.{checked_tables, image_findings}
 use Rattle.qcow2_check.specs.Flags.{image_flags}
 use Rattle.qcow2_check.specs.Totals.{totals_on, verdict_in}
 use Rattle.qcow2_check.specs.Uses.{ImageTables}
-use Rattle.qcow2_metadata.specs.Header.{HeaderRecord, any_compression, each_feature}
+use Rattle.qcow2_metadata.specs.Header.{HeaderRecord, each_feature}
 use Rattle.qcow2_metadata.specs.Results.{IsFromOutside, result_map}
-use Rattle.qcow2_metadata.specs.declared.header.features.AcceptedFeatures.{AcceptedFeatures}
 use Rattle.qcow2_repair.specs.Refusals.{repair_within}
 use Rattle.qcow2_repair.specs.Repair.{RepairsImage}
 use Rattle.qcow2_check.specs.Failures.{RefusesAs}
@@ -113,12 +112,6 @@ repairs form.Text = false
 repairs (form.Json file_name) = false
 repairs form.Repair = true
 
--- the features with which it accepts an image: a repair of one that is dirty or corrupt is refused
-abbrev pub accepted_by : CheckForm → AcceptedFeatures
-accepted_by form.Text = each_feature
-accepted_by (form.Json file_name) = each_feature
-accepted_by form.Repair = any_compression
-
 -- whether it prints before some faults
 abbrev pub prints_early : CheckForm → Bool
 prints_early form.Text = true
@@ -129,7 +122,7 @@ prints_early form.Repair = true
 abbrev pub check_facts : CheckForm → CommandFacts
 check_facts how = record (plain_facts (λ O header run. EndsCheck how header run)) {
   changes_image = repairs how;
-  accepts = accepted_by how;
+  accepts = each_feature;
   prints_before_faults = prints_early how;
   has_verdict = true;
   reads_all_tables = true;

@@ -26,9 +26,10 @@ use super::list::list_tables;
 use super::map::print_extents;
 use super::refcount::print_counters;
 use super::tables::print_tables;
+use qcow2_apply::refuse_uneditable;
 use qcow2_base::{Device, Fault, FileStorage, ImageFile, ImageFiles, Storage};
 use qcow2_buffered::BufferedStorage;
-use qcow2_check::{Verdict, refuse_short_l1};
+use qcow2_check::Verdict;
 use qcow2_metadata::Header;
 use std::alloc::Global;
 use std::io;
@@ -38,13 +39,13 @@ use std::io::Write;
 /// image. Flushes what the command prints, also before a fault. A command that reads all tables reads them
 /// in pages.
 ///
-/// Returns 34 if the file can't be opened, and 35 if memory for the pages runs out. `apply` returns 41 if
-/// the L1 table is too short. Unless the data is in an external data file, it returns 32 and the position
-/// of the first edit that doesn't fit the disk or maps a cluster past the image's end; regular files and
-/// block devices have an end. These faults come before any output, and leave the file unchanged except for
-/// what loading the header wrote. Otherwise returns what `run` does, and 34 if the flush fails. Changes no
-/// other file, unless that is the same one. If `files` report that another program came to the image,
-/// returns 39 instead of 34: the request may be partly done then.
+/// Returns 34 if the file can't be opened, and 35 if memory for the pages runs out. `apply` returns 42 if the
+/// image is marked dirty or corrupt, and 41 if the L1 table is too short. Unless the data is in an external
+/// data file, it returns 32 and the position of the first edit that doesn't fit the disk or maps a cluster
+/// past the image's end; regular files and block devices have an end. These faults come before any output,
+/// and leave the file unchanged except for what loading the header wrote. Otherwise returns what `run` does,
+/// and 34 if the flush fails. Changes no other file, unless that is the same one. If `files` report that
+/// another program came to the image, returns 39 instead of 34: the request may be partly done then.
 pub fn run_on_file<R: ImageFiles, O: Write>(
     alloc: Global,
     files: &mut R,
@@ -127,9 +128,9 @@ fn compare_with_end<S: Device>(
     }
 }
 
-// Refuses edits of a disk: by 41 if the L1 table is too short, and by 32 with the position of the first
-// edit that doesn't fit the disk or maps a cluster past the image's end. With an external data file `apply`
-// refuses all edits later.
+// Refuses edits of a disk: by 42 if the image is marked dirty or corrupt, by 41 if the L1 table is too short,
+// and by 32 with the position of the first edit that doesn't fit the disk or maps a cluster past the image's
+// end. With an external data file `apply` refuses all edits later.
 fn refuse_maps_past_end<S: Device>(
     image: &mut S,
     header: &Header,
@@ -141,7 +142,7 @@ fn refuse_maps_past_end<S: Device>(
         (maps_refusal edits.now header.now (S.state image.old).len) result) }
     ensures reads { OnlyReads result (S.state image.old) (S.state image.new) }
 {
-    refuse_short_l1(header)?;
+    refuse_uneditable(header)?;
     if header.external_data_file() {
         return Ok(());
     }

@@ -31,6 +31,8 @@ const LAYOUT: &str =
 
 const REFUSED: Ended<'static> = Failed("", "qmeta: fault 17\n");
 
+const MARKED: Ended<'static> = Failed("", "qmeta: fault 42\n");
+
 const MARKED_OBJECT: &str = "{\n    \"image-end-offset\": 3072,\n    \"total-clusters\": 64,\n    \
     \"check-errors\": 0,\n    \"dirty\": true,\n    \"corrupt\": true,\n    \
     \"allocated-clusters\": 1,\n    \"filename\": \"IMAGE\",\n    \"format\": \"qcow2\"\n}\n";
@@ -74,11 +76,10 @@ const LOOKS: &[Look] = rows! {
     ("edit IMAGE 0 discard:3", counted! { DIRTY }, REFUSED),
     ("count IMAGE 4 inc:5", counted! { CORRUPT }, REFUSED),
     ("list IMAGE", counted! { ZSTD, LENGTH, TYPE }, REFUSED),
-    // commands that know compression alone
-    ("check IMAGE repair", counted! { DIRTY }, REFUSED),
-    ("check IMAGE repair", counted! { CORRUPT }, REFUSED),
-    ("apply IMAGE discard:0x600", counted! { BOTH }, REFUSED),
-    ("apply IMAGE plan discard:0x600", counted! { DIRTY }, REFUSED),
+    // edits of a disk come after a repair
+    ("apply IMAGE discard:0x600", counted! { BOTH }, MARKED),
+    ("apply IMAGE plan discard:0x600", counted! { DIRTY }, MARKED),
+    ("apply IMAGE discard:0x601", counted! { CORRUPT, LONGER }, MARKED),
 };
 
 #[test]
@@ -136,8 +137,18 @@ fn check_object(alloc: Global, row: Object) -> Result<(), Fail> {
     same(found, (Some(Ok(row.verdict)), row.text), row.name)
 }
 
-// A leak of an image of another compression is repaired, and its disk is edited.
+// Cluster 256, which no block counts.
+const PAST_BLOCKS: (u64, u64) = (0x420, 0x2_0000);
+
+// A repair clears marks where nothing stays wrong. An image of another compression is repaired and edited.
 const CHANGES: &[Run<'static>] = rows! {
+    Run { line: "check IMAGE repair", before: counted! { DIRTY }, ended: Done("consistent\n"),
+        after: counted! {}, ..RUN },
+    Run { line: "check IMAGE repair", before: counted! { BOTH, TO_6 }, ended: Done("consistent\n"),
+        after: counted! { (0x9f8, 0) }, ..RUN },
+    Run { line: "check IMAGE repair", before: counted! { CORRUPT, PAST_BLOCKS },
+        ended: Harmful("missing 256 1 0 1\ncorrupt\nleaked 0 missing 1 shared 0 false 0 late 0\n"),
+        after: counted! { CORRUPT, PAST_BLOCKS }, ..RUN },
     Run { line: "check IMAGE repair", before: counted! { ZSTD, LENGTH, TYPE, TO_6 },
         ended: Done("consistent\n"), after: counted! { ZSTD, LENGTH, TYPE, (0x9f8, 0) }, ..RUN },
     Run { line: "apply IMAGE discard:0x600", before: counted! { (0xdf8, 0), ZSTD, LENGTH, TYPE },
@@ -147,6 +158,6 @@ const CHANGES: &[Run<'static>] = rows! {
 };
 
 #[test]
-fn images_of_another_compression_are_changed(rt: HostRuntime) -> Result<(), Fail> {
-    check_runs(&rt, "another compression", CHANGES)
+fn images_with_features_are_changed(rt: HostRuntime) -> Result<(), Fail> {
+    check_runs(&rt, "features", CHANGES)
 }

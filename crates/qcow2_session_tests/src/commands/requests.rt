@@ -57,8 +57,8 @@ const ROWS: &[Row] = rows! {
     ("nothing --help", Asked::Nothing),
     ("help check IMAGE", Asked::Nothing),
     ("version IMAGE", Asked::Nothing),
-    ("explain 42", Asked::Nothing),
-    ("explain 42 IMAGE", Asked::Nothing),
+    ("explain 43", Asked::Nothing),
+    ("explain 43 IMAGE", Asked::Nothing),
     ("explain 3 IMAGE IMAGE", Asked::Nothing),
 };
 

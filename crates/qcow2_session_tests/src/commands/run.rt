@@ -110,7 +110,7 @@ const NO_COMMANDS: &[&str] = rows! {
     "count IMAGE", "count IMAGE 3 inc:", "count IMAGE 3 add:0", "count IMAGE 3 inc:+1",
     "count IMAGE 3 inc:0:1", "count IMAGE 3 inc:0 discard:0",
     // faults that don't exist, and too many words
-    "explain 0 IMAGE", "explain 42 IMAGE", "explain x IMAGE", "explain +3 IMAGE", "explain IMAGE",
+    "explain 0 IMAGE", "explain 43 IMAGE", "explain x IMAGE", "explain +3 IMAGE", "explain IMAGE",
     "explain IMAGE 3", "explain 3 IMAGE IMAGE", "Explain 3 IMAGE",
 };
 

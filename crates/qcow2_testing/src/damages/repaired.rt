@@ -115,6 +115,45 @@ const LOADED: &[Loaded] = rows! { Loaded:
         }, l2_tables: &[L2_TABLE, 0xc00], checked_loads: 5 },
 };
 
+// The marks of a dirty and of a corrupt image, and another compression. Their field comes before the others.
+const DIRTY: (u64, u64) = (72, 1);
+
+const CORRUPT: (u64, u64) = (72, 2);
+
+const ALL_BITS: Numbers<'static> = counted! {
+    (72, 11), (96, 0x0000_0004_0000_0070), (104, 1 << 56), TO_6
+};
+
+const ALL_BITS_LEFT: Numbers<'static> = counted! {
+    (72, 8), (96, 0x0000_0004_0000_0070), (104, 1 << 56), BLOCK_END
+};
+
+const MARKED: &[Repair] = rows! {
+    Repair { name: "a dirty image in order", changes: counted! { DIRTY }, ..CONSISTENT },
+    Repair { name: "a corrupt image in order", changes: counted! { CORRUPT }, ..CONSISTENT },
+    Repair { name: "marks, and an autoclear feature", changes: counted! { (72, 3), AUTOCLEAR },
+        ..CONSISTENT },
+    Repair { name: "a dirty image with missing data", changes: counted! { DIRTY, NO_DATA },
+        left: WRITTEN, ..CONSISTENT },
+    Repair { name: "a corrupt image with a false flag",
+        changes: counted! { CORRUPT, DATA, (NEXT_ENTRY, COPIED + 0xa00), TWICE },
+        left: counted! { DATA, (NEXT_ENTRY, 0xa00), TWICE }, ..CONSISTENT },
+    Repair { name: "marks of an image with an external data file",
+        changes: counted! { (72, 7), DATA },
+        left: counted! { EXTERNAL, NO_DATA, BLOCK_END }, ..CONSISTENT },
+    Repair { name: "marks of an image of another compression, with a leak", changes: ALL_BITS,
+        left: ALL_BITS_LEFT, ..CONSISTENT },
+    // they stay where something stays wrong
+    Repair { name: "a dirty image with data past the last counter",
+        changes: counted! { DIRTY, (NEXT_ENTRY, 0x2_0000), (COUNTERS_8, 1) },
+        left: counted! { DIRTY, (NEXT_ENTRY, 0x2_0000), BLOCK_END },
+        lines: "missing 256 1 0 1\ndirty\nleaked 0 missing 1 shared 0 false 0 late 0\n", ..CONSISTENT },
+    Repair { name: "a corrupt image without a block", changes: counted! { CORRUPT, TABLE, (REFTABLE, 0) },
+        left: counted! { CORRUPT, TABLE, (REFTABLE, 0) },
+        lines: "missing 0 4 0 1\nmissing 5 1 0 1\nfalse 0x600 5 0\ncorrupt\n\
+            leaked 0 missing 5 shared 0 false 1 late 0\n", ..CONSISTENT },
+};
+
 // Refcounts of one bit, the first six of them 1.
 const NARROW: (u64, u64) = (96, 0x0000_0000_0000_0068);
 
@@ -152,6 +191,10 @@ const UNREPAIRABLE: &[Unrepairable] = rows! { Unrepairable:
             NARROW, NARROW_COUNTERS, (COUNTERS_4, 0), (NEXT_ENTRY, REFTABLE), (THIRD_ENTRY, 0xa00)
         }, fault: Fault::Overlap },
     { name: "a header without room", changes: NO_ROOM, fault: Fault::HeaderTooLong },
+    { name: "data in the L1 table of a marked image",
+        changes: counted! { (72, 3), (NEXT_ENTRY, L1_TABLE) }, fault: Fault::Overlap },
+    { name: "a short table of a dirty image", changes: counted! { (24, 32769), DIRTY },
+        fault: Fault::L1Short },
     // L1 tables that are too short for their disks, also beside other reasons to refuse
     { name: "a cluster past the L1 table", changes: counted! { AUTOCLEAR, (24, 32769) },
         fault: Fault::L1Short },
@@ -170,6 +213,11 @@ const UNREPAIRABLE: &[Unrepairable] = rows! { Unrepairable:
 /// Refcounts that a repair corrects.
 pub(super) fn counts() -> &'static [Repair] {
     COUNTS
+}
+
+/// Marks that a repair clears, and some that it leaves.
+pub(super) fn marked() -> &'static [Repair] {
+    MARKED
 }
 
 /// Copied flags that a repair corrects.
