@@ -387,10 +387,10 @@ typedef struct zq_check_totals {
  * Checks an image by all its bytes, which may be mapped memory. Finds clusters whose refcount isn't their number of
  * references or whose references exclude each other, and wrong copied flags. Sets *totals. Writes the findings in the
  * order of clusters, all or as many as capacity allows, and sets *count to their number: if totals->findings is
- * greater, more were left out. Elements after them are unchanged. Past its last byte the image reads as zeros. An
- * image that is marked dirty or corrupt is checked too: zq_header_read tells its marks. Takes memory for the header's
- * names, the L1 table, the refcount table, a refcount block, an L2 table at a time, and the reference counts of a part
- * of the clusters.
+ * greater, more were left out. Elements after them are unchanged. Past its last byte the image reads as zeros, and
+ * references to clusters there count like others. An image that is marked dirty or corrupt is checked too:
+ * zq_header_read tells its marks. Takes memory for the header's names, the L1 table, the refcount table, a refcount
+ * block, an L2 table at a time, and the reference counts of a part of the clusters.
  *
  * Faults, in this order: one of 1 to 17 of the header; ZQ_UNCOUNTED (37) for an image with snapshots, bitmaps or LUKS
  * encryption, whose references aren't read; one of ZQ_ENTRY_RESERVED (18) to ZQ_TABLE_PLACE (21), the first of the L1

@@ -15,9 +15,9 @@ from .faults import L1_SHORT, OVERLAP, REFCOUNT_RANGE, TABLE_PLACE, UNCOUNTED
 from .image import COMPRESSED, COPIED, CORRUPT, DIRTY, ENTRY_SIZE, GREATEST_END, LUKS, SECTOR, ZERO
 from .image import Entry, Image, Refused
 
-# The kinds of lines, in the order of the last line, and those that may destroy data.
+# The kinds of lines, in the order of the last line, which has `past` only if there are any, and those that may destroy data.
 KINDS = ("leaked", "missing", "shared", "false", "late")
-HARMFUL = {"missing", "shared", "false"}
+HARMFUL = {"missing", "shared", "false", "past"}
 
 
 def examine(image, to_repair):
@@ -76,6 +76,7 @@ class Check:
         self.first_named = {offset: index for index, offset in reversed(self.image.refcount_blocks.items())}
         self.totals, self.text = Counter(), ""
         self.add_cluster_lines()
+        self.add_past_lines()
         for flag in self.flags():
             self.add_flag_line(flag)
 
@@ -119,13 +120,24 @@ class Check:
         known = self.references.keys() | self.image.refcounts.keys()
         findings = {cluster: self.finding(cluster) for cluster in sorted(known)}
         self.wrong = [c for c, (refcount, references, shared) in findings.items() if refcount != references or shared]
-        for _, run in groupby(enumerate(self.wrong), lambda pair: (pair[1] - pair[0], findings[pair[1]])):
-            clusters = [cluster for _, cluster in run]
-            refcount, references, shared = findings[clusters[0]]
+        for first, count in runs_of(self.wrong, findings):
+            refcount, references, shared = findings[first]
             is_of_kind = {"leaked": refcount > references, "missing": refcount < references, "shared": shared}
             for kind in filter(is_of_kind.get, is_of_kind):
-                self.text += f"{kind} {clusters[0]} {len(clusters)} {refcount} {references}\n"
-                self.totals[kind] += len(clusters)
+                self.add_run(kind, first, count)
+
+    def add_past_lines(self):
+        """Adds the lines of clusters that have references though they begin past the file's end."""
+        end = self.header.clusters_of(self.image.length)
+        past = sorted(cluster for cluster in self.references if cluster >= end)
+        for first, count in runs_of(past, {cluster: self.finding(cluster) for cluster in past}):
+            self.add_run("past", first, count)
+
+    def add_run(self, kind, first, count):
+        """Adds the line of clusters in a row with the same finding."""
+        refcount, references, _ = self.finding(first)
+        self.text += f"{kind} {first} {count} {refcount} {references}\n"
+        self.totals[kind] += count
 
     def flags(self):
         """The copied flags of all entries that refer to a cluster: those of L1 entries, each before its L2 table's.
@@ -176,7 +188,8 @@ class Check:
         header = self.header
         marks = "dirty\n" * header.is_dirty + "corrupt\n" * header.is_corrupt
         short = f"short-l1 {header.l1_size} {header.l1_needed}\n" if header.is_l1_short else ""
-        last = " ".join(f"{kind} {self.totals[kind]}" for kind in KINDS) if self.status() else "consistent"
+        kinds = KINDS + ("past",) * ("past" in self.totals)
+        last = " ".join(f"{kind} {self.totals[kind]}" for kind in kinds) if self.status() else "consistent"
         return f"{self.text}{marks}{short}{last}\n{self.status()}"
 
     def status(self):
@@ -195,10 +208,11 @@ class Check:
             "image-end-offset": (last + 1) * header.cluster_size,
             "compressed-clusters": counts["compressed"],
             "total-clusters": header.guest_clusters,
-            "corruptions": totals["missing"] + totals["false"] + totals["late"] + header.is_l1_short,
+            "corruptions": sum(totals[kind] for kind in ("missing", "past", "false", "late")) + header.is_l1_short,
             "check-errors": 0,
             "leaks": totals["leaked"],
             "shared": totals["shared"],
+            "past": totals["past"],
             "false-flags": totals["false"],
             "late-flags": totals["late"],
             "dirty": header.is_dirty,
@@ -243,12 +257,12 @@ class Check:
         }
         return [name for name, holds in cases.items() if holds]
 
-    def clusters_of_lines(self):
-        """The clusters of the lines that the program prints, the last line aside."""
+    def clusters_to_repair(self):
+        """The clusters of the lines that the program prints, the last line aside, and those past the file's end."""
         for words in map(str.split, self.text.splitlines()):
             if words[0] in ("false", "late"):
                 yield int(words[-2])
-            else:
+            elif words[0] != "past":
                 yield from range(int(words[1]), int(words[1]) + int(words[2]))
 
     # A repair
@@ -278,9 +292,13 @@ class Check:
         return stored
 
     def clear_marks(self, stored):
-        """Clears the marks in the header, if it has any and blocks count each wrong cluster, so that none stays wrong."""
+        """Clears the marks in the header, if it has any and nothing stays wrong.
+
+        Blocks count each wrong cluster then, and no cluster past the file's end has references.
+        """
         header = self.header
-        if (header.is_dirty or header.is_corrupt) and None not in map(self.image.block_of, self.wrong):
+        is_right = None not in map(self.image.block_of, self.wrong) and "past" not in self.totals
+        if (header.is_dirty or header.is_corrupt) and is_right:
             features = header.incompatible_features & ~(DIRTY | CORRUPT)
             put_features(stored, features)
 
@@ -293,6 +311,13 @@ class Check:
         if not flag.is_counted or self.image.block_of(cluster) is not None:
             is_set = not flag.is_counted or self.references[cluster] == 1
             put_entry(stored, flag.table, entry.index, entry.bits & ~COPIED | is_set * COPIED)
+
+
+def runs_of(clusters, findings):
+    """The first of clusters in a row with the same finding, and how many they are, for each such row."""
+    for _, run in groupby(enumerate(clusters), lambda pair: (pair[1] - pair[0], findings[pair[1]])):
+        members = [cluster for _, cluster in run]
+        yield members[0], len(members)
 
 
 def json_text(members):
@@ -343,6 +368,6 @@ def repair_of(path, before):
 
 
 def uncounted_is_left(path):
-    """Whether all findings of a check are about clusters that no block counts."""
+    """Whether all findings of a check that a repair could make right are about clusters that no block counts."""
     check = Check(path)
-    return all(check.image.block_of(cluster) is None for cluster in check.clusters_of_lines())
+    return all(check.image.block_of(cluster) is None for cluster in check.clusters_to_repair())

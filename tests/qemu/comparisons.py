@@ -13,7 +13,7 @@ from .tools import CHECK_STATUSES, CLEAN, qemu_check_counts, run, qmeta_output, 
 from .trials import Problems
 
 # The lines of members that only `qmeta check` prints.
-OWN_MEMBERS = re.compile(r'    "(?:shared|false-flags|late-flags|dirty|corrupt)": (?:\d+|true),\n')
+OWN_MEMBERS = re.compile(r'    "(?:shared|past|false-flags|late-flags|dirty|corrupt)": (?:\d+|true),\n')
 
 # The last line of `qmeta check` with findings.
 TOTALS = re.compile(r"^leaked (\d+) missing (\d+) shared \d+ false (\d+) late (\d+)$", re.MULTILINE)

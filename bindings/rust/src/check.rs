@@ -66,8 +66,9 @@ impl CheckTotals {
 /// Checks an image by all its bytes: finds clusters whose refcount isn't their number of references
 /// or whose references exclude each other, and wrong copied flags. Writes as many findings as fit
 /// into `findings`, in the order of clusters, and returns the totals of the whole check. Elements
-/// of `findings` after them are unchanged. Past its last byte the image reads as zeros. An image
-/// that is marked dirty or corrupt is checked too: [`Header::is_dirty`](crate::Header::is_dirty) and
+/// of `findings` after them are unchanged. Past its last byte the image reads as zeros, and
+/// references to clusters there count like others. An image that is marked dirty or corrupt is
+/// checked too: [`Header::is_dirty`](crate::Header::is_dirty) and
 /// [`Header::is_corrupt`](crate::Header::is_corrupt) tell.
 ///
 /// # Errors

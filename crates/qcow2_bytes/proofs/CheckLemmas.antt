@@ -8,7 +8,7 @@ use Rattle.qcow2_base.specs.declared.fault.Fault.TheVariants.{NoMemory, Storage,
 use Rattle.qcow2_base.specs.declared.fault.UncountedPart.{UncountedPart}
 use Rattle.qcow2_base.specs.declared.types.HostCluster.{HostCluster}
 use Rattle.qcow2_check.proofs.TotalsLemmas.{items-more, totals-finding}
-use Rattle.qcow2_check.specs.Findings.{FindingsState, IsCheckFault, checked_tables, findings_left, image_findings, tables_of}
+use Rattle.qcow2_check.specs.Findings.{FindingsState, IsBegun, IsCheckFault, checked_tables, findings_left, image_findings, tables_of}
 use Rattle.qcow2_check.specs.NamedTables.{l1_cluster, reftable_cluster, reftable_kind}
 use Rattle.qcow2_check.specs.Totals.{finding_totals, with_clusters}
 use Rattle.qcow2_check.specs.Uses.{ImageTables}
@@ -54,12 +54,12 @@ findings-more all counted left later finding count sum was is old new list are f
 
 -- all are counted and put
 pub all-counted : (reader : FindingsState) (image : Image) (counted left : List Finding) (count : ℕ) (totals : Totals) (old new : List FindingFields)
-    → reader.position ≡ 0 → left ≡ [] → findings_left reader image ≡ counted ++ left → Counted counted count totals
+    → IsBegun reader → left ≡ [] → findings_left reader image ≡ counted ++ left → Counted counted count totals
     → AreFirstPut (map finding_fields counted) old new
     → (count ≡ length (image_findings (tables_of reader) image)) × (totals ≡ finding_totals (image_findings (tables_of reader) image))
     × AreFirstPut (map finding_fields (image_findings (tables_of reader) image)) old new
 all-counted reader image counted left count totals old new begun none are same put =
-    let all : findings_left reader image ≡ image_findings (tables_of reader) image = rw begun refl in
+    let all : findings_left reader image ≡ image_findings (tables_of reader) image = rw (begun.0, begun.1) refl in
     let whole : image_findings (tables_of reader) image ≡ counted = sym all ∙ are ∙ ap (λ rest. counted ++ rest) none ∙ append-nil counted in
     rw whole (same.0, same.1, put)
 

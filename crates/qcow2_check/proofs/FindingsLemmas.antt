@@ -1,4 +1,4 @@
-use Rattle.std.proofs.Common.{◌≡◌, ◌↔◌, ℕ, false, ◌==◌, ◌+◌, ◌/◌, ◌%◌, ◌<◌, ◌≤◌, ◌&&◌, List, [], ◌∷◌, fold, Some, None, Result, Ok, Err, refl, sym, ap, subst, inl, inr, ◌∙◌, length, slice_index, slice_set, ◌-◌, div-add-mod', IsSomeAnd, IfSome, Option, if◌then◌else◌, arith}
+use Rattle.std.proofs.Common.{◌≡◌, ◌↔◌, ℕ, true, false, ◌==◌, ◌+◌, ◌/◌, ◌%◌, ◌<◌, ◌≤◌, ◌&&◌, List, [], ◌∷◌, fold, Some, None, Result, Ok, Err, refl, sym, ap, subst, inl, inr, ◌∙◌, length, slice_index, slice_set, ◌-◌, div-add-mod', IsSomeAnd, IfSome, Option, if◌then◌else◌, arith}
 use Rattle.std.proofs.lemmas.Bool.{cases_eq, cases_lt}
 use Rattle.std.proofs.lemmas.Bool.Decides.{nat_tests}
 use Rattle.std.proofs.lemmas.Grind.{get_or-set_at}
@@ -19,10 +19,12 @@ use Rattle.qcow2_metadata.specs.Refblock.{BlockState}
 use Rattle.std.proofs.lemmas.Nat.{pow_pos}
 use Rattle.qcow2_metadata.specs.Entries.{is_among}
 use Rattle.qcow2_metadata.specs.Table.L2Guards.{one_if}
-use Rattle.qcow2_check.specs.Findings.{AreRight, CountsAll, FindingsState, IsCheckFault, MovesFindings, PassesFinding, checked_tables, IsFindingsOf, finding_at, is_shared, is_wrong, reported_counter, tables_of, uses_of_kind}
+use Rattle.qcow2_check.specs.Findings.{AreRight, CountsAll, FindingsState, IsCheckFault, MovesFindings, NoneSought, PassesFinding, checked_tables, IsFindingsOf, finding_at, is_shared, is_sought, reported_counter, tables_of, uses_of_kind}
 use Rattle.qcow2_check.specs.Tally.{CountsMore, IsPlain, TallyState, ClusterUse, cell_at, cell_with, is_shared_cell, mark_of, with_use}
 use Rattle.qcow2_check.specs.Uses.{ImageTables, all_load, image_uses, uses_of}
 use Rattle.qcow2_check.specs.declared.findings.Finding.{Finding}
+use Rattle.qcow2_check.specs.declared.findings.Sought.{Sought}
+use Rattle.qcow2_check.specs.declared.findings.Sought.TheVariants.{Used}
 use Rattle.qcow2_check.specs.declared.tally.TallyKind.{TallyKind}
 use Rattle.qcow2_check.specs.declared.tally.TallyKind.TheVariants.{Fixed, Guest, L2Table}
 
@@ -112,14 +114,26 @@ right_before reader tally image from to has is first end unused free = λ c afte
     let apart : is_shared uses c ≡ false = sym (cell_shares uses c 0 none) in
     grind (arith, nat_tests, free c after before, unused, apart)
 
-pub right_more : (tables : ImageTables) (image : Image) (from c : ℕ) (finding : Finding) → AreRight tables image from c
-    → finding ≡ finding_at tables image c → is_wrong finding ≡ false → AreRight tables image from (c + 1)
-right_more tables image from c finding right is fine = λ other after before.
-    elim (cases_lt other c) [
-      | inl below ↦ right other after below
+-- clusters that have no use aren't used
+pub unused_before : (reader : FindingsState) (tally : TallyState) (image : Image) (from to : ℕ) → reader.tally ≡ Some tally
+    → IsFindingsOf image reader → tally.first ≤ from → to ≤ tally.end
+    → ((c : ℕ) → from ≤ c → c < to → cell_at tally c ≡ 0)
+    → NoneSought Used (tables_of reader) image from to
+unused_before reader tally image from to has is first end unused = λ c after before.
+    let uses = image_uses (tables_of reader) image in
+    let all : cell_at tally c ≡ fold (cell_with c) 0 uses = (rw has at is.counted) c (omega (arith, first, after)) (omega (arith, before, end)) in
+    let none : 0 ≡ uses_of uses c = cell_counts uses c 0 (sym (unused c after before) ∙ all) in
+    grind (arith, nat_tests, none)
+
+-- nor is a cluster sought after those
+pub none_more : (sought : Sought) (tables : ImageTables) (image : Image) (from c : ℕ) (finding : Finding) → NoneSought sought tables image from c
+    → finding ≡ finding_at tables image c → is_sought sought finding ≡ false → NoneSought sought tables image from (c + 1)
+none_more sought tables image from c finding none is other = λ k after before.
+    elim (cases_lt k c) [
+      | inl below ↦ none k after below
       | inr above ↦
-          let same : other ≡ c = omega (arith, before, above) in
-          ap (λ k. is_wrong (finding_at tables image k)) same ∙ sym (ap is_wrong is) ∙ fine
+          let same : k ≡ c = omega (arith, before, above) in
+          ap (λ j. is_sought sought (finding_at tables image j)) same ∙ sym (ap (is_sought sought) is) ∙ other
     ]
 
 -- a tally that counted all uses, and no others
@@ -161,9 +175,9 @@ opened_before opened more header a b c opens reads = record {
 }
 
 -- L2 tables that can't all be loaded, after the L1 table and the refcount table
-pub refused_tables : {T U : Type 0} {seen : U → ImageTables} {opened : U} (view : T → ImageTables) (header : HeaderRecord) (fault : Fault) (a b c : StorageState)
+pub refused_tables : {A T U : Type 0} {seen : U → ImageTables} {opened : U} (view : T → ImageTables) (header : HeaderRecord) (fault : Fault) (a b c : StorageState)
     → Reads seen (Ok opened) (opened_tables header) (IsCheckFault header) a b
-    → Reads (λ (done : Unit {0}). done) (Err fault) (all_load (geometry_of header) (seen opened).l1) IsEntryFault b c
+    → Reads {T = A} (λ _. tt {0}) (Err fault) (all_load (geometry_of header) (seen opened).l1) IsEntryFault b c
     → Reads view (Err fault) (checked_tables header) (IsCheckFault header) a c
 refused_tables view header fault a b c opens reads = record {
   exact = λ told. grind (arith, told, opens, reads.exact);
@@ -171,49 +185,52 @@ refused_tables view header fault a b c opens reads = record {
   storage = grind (arith, nat_tests, opens.storage, reads.storage);
 }
 
--- clusters that nothing is wrong with, one after another
-right_joins : (tables : ImageTables) (image : Image) (a b c : ℕ) → AreRight tables image a b → AreRight tables image b c → AreRight tables image a c
-right_joins tables image a b c one other = λ k after before.
+-- clusters of which none is sought, one after another
+none_joins : (sought : Sought) (tables : ImageTables) (image : Image) (a b c : ℕ) → NoneSought sought tables image a b → NoneSought sought tables image b c
+    → NoneSought sought tables image a c
+none_joins sought tables image a b c one other = λ k after before.
     elim (cases_lt k b) [
       | inl below ↦ one k after below
       | inr above ↦ other k above before
     ]
 
--- what holds of the image and the tables that a reader has later holds of those that it had first
-same_reader : (Fact : ImageTables → Image → Type 0) (old now : StorageState) (first later : FindingsState) → OnlyReads (Ok later.position) old now
-    → MovesFindings old first later → Fact (tables_of later) now.byte_at → Fact (tables_of first) old.byte_at
+-- what holds of the image, the tables and what is sought that a reader has later holds of those that it had first
+same_reader : (Fact : Sought → ImageTables → Image → Type 0) (old now : StorageState) (first later : FindingsState) → OnlyReads (Ok later.position) old now
+    → MovesFindings old first later → Fact later.sought (tables_of later) now.byte_at → Fact first.sought (tables_of first) old.byte_at
 same_reader Fact old now first later reads moves fact =
     let tables : tables_of later ≡ tables_of first = ap tables_of moves.same in
-    subst (λ t. Fact t old.byte_at) tables (subst (λ image. Fact (tables_of later) image) reads.bytes fact)
+    let sought : later.sought ≡ first.sought = ap (λ (reader : FindingsState). reader.sought) moves.same in
+    subst (λ s. Fact s (tables_of first) old.byte_at) sought
+    (subst (λ t. Fact later.sought t old.byte_at) tables (subst (λ image. Fact later.sought (tables_of later) image) reads.bytes fact))
 
 -- no number is below itself
 below_all : ⊥ → ⊥
 below_all never = never
 
--- what a reader passes after it has passed clusters that nothing is wrong with
+-- what a reader passes after it has passed clusters that it doesn't seek
 pub passes_on : (old now : StorageState) (first later : FindingsState) (finding : Finding) (to : ℕ) → OnlyReads (Ok later.position) old now
     → MovesFindings old first later → first.position ≤ later.position
-    → OnImage old (λ bytes. AreRight (tables_of first) bytes first.position later.position)
+    → OnImage old (λ bytes. NoneSought first.sought (tables_of first) bytes first.position later.position)
     → PassesFinding now later (Ok (Some finding)) to → PassesFinding old first (Ok (Some finding)) to
 passes_on old now first later finding to reads moves from right passes = (
   omega (arith, from, passes.0),
   passes.1,
   λ told.
       let found = passes.2 (rw reads.device.tells told) in (
-        same_reader (λ t image. finding ≡ finding_at t image finding.cluster.0) old now first later reads moves found.0,
-        found.1,
-        right_joins (tables_of first) old.byte_at first.position later.position finding.cluster.0 (right told)
-            (same_reader (λ t image. AreRight t image later.position finding.cluster.0) old now first later reads moves found.2),
+        same_reader (λ _ t image. finding ≡ finding_at t image finding.cluster.0) old now first later reads moves found.0,
+        same_reader (λ s _ _. is_sought s finding ≡ true) old now first later reads moves found.1,
+        none_joins first.sought (tables_of first) old.byte_at first.position later.position finding.cluster.0 (right told)
+            (same_reader (λ s t image. NoneSought s t image later.position finding.cluster.0) old now first later reads moves found.2),
       ),
 )
 
 pub passes_none : (old now : StorageState) (first later : FindingsState) (to : ℕ) → OnlyReads (Ok later.position) old now
     → MovesFindings old first later
-    → OnImage old (λ bytes. AreRight (tables_of first) bytes first.position later.position)
-    → PassesFinding now later (Ok None) to → OnImage old (λ bytes. AreRight (tables_of first) bytes first.position to)
+    → OnImage old (λ bytes. NoneSought first.sought (tables_of first) bytes first.position later.position)
+    → PassesFinding now later (Ok None) to → OnImage old (λ bytes. NoneSought first.sought (tables_of first) bytes first.position to)
 passes_none old now first later to reads moves right passes = λ told.
-    right_joins (tables_of first) old.byte_at first.position later.position to (right told)
-    (same_reader (λ t image. AreRight t image later.position to) old now first later reads moves (passes.1 (rw reads.device.tells told)))
+    none_joins first.sought (tables_of first) old.byte_at first.position later.position to (right told)
+    (same_reader (λ s t image. NoneSought s t image later.position to) old now first later reads moves (passes.1 (rw reads.device.tells told)))
 
 -- what a reader passes after it has stayed at its cluster
 pub passes_same : (old now : StorageState) (first later : FindingsState) (answer : Result (Option Finding) Fault) (to : ℕ) → OnlyReads (Ok later.position) old now

@@ -5,7 +5,7 @@ use Rattle.std.specs.List.{All, sum_by}
 use Rattle.qcow2_base.specs.Storage.{Image, OnImage, StorageState}
 use Rattle.qcow2_metadata.specs.Table.L2Guards.{one_if}
 use Rattle.qcow2_check.specs.Findings.{is_leaked, is_missing}
-use Rattle.qcow2_check.specs.Totals.{finding_totals, with_clusters, with_flag, with_flags}
+use Rattle.qcow2_check.specs.Totals.{finding_totals, with_clusters, with_flag, with_flags, with_past}
 use Rattle.qcow2_check.specs.declared.findings.Finding.{Finding}
 use Rattle.qcow2_check.specs.declared.flags.WrongFlag.{WrongFlag}
 use Rattle.qcow2_check.specs.declared.totals.Totals.{Totals}
@@ -25,6 +25,10 @@ totals-finding counted finding =
     let missing = sum_by_push (λ (f : Finding). one_if (is_missing f)) counted finding in
     let shared = sum_by_push (λ (f : Finding). one_if f.shared) counted finding in
     rw (leaked, missing, shared) refl
+
+-- the totals of more clusters past the end of a file
+pub totals-past : (totals : Totals) (m n k : ℕ) → k ≡ m + n → with_past (with_past totals m) n ≡ with_past totals k
+totals-past totals m n k is = ap (λ past. record totals { past = past }) (omega (arith, is))
 
 -- the totals of one flag more
 pub totals-flag : (totals : Totals) (counted : List WrongFlag) (flag : WrongFlag) → with_flag (with_flags totals counted) flag ≡ with_flags totals (counted ++ flag ∷ [])

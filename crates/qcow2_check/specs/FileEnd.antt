@@ -15,6 +15,10 @@ use Rattle.qcow2_check.specs.declared.uses.Use.{Use}
 use Rattle.qcow2_check.specs.declared.uses.UseKind.{UseKind}
 use Rattle.qcow2_check.specs.declared.uses.UseKind.TheVariants.{Header}
 
+-- how many clusters a file of this length has, of an image with this header. The last may be cut
+abbrev pub file_clusters : ℕ → HeaderRecord → ℕ
+file_clusters file_length header = div_ceil file_length (2 ^ header.v2.cluster_bits)
+
 -- whether clusters are used as the header, which was read from the file
 abbrev pub is_header : UseKind → Bool
 is_header Header = true
@@ -42,8 +46,7 @@ file_end_after end one = if is_some end.missing || has_use end.clusters one then
 abbrev pub tables_in_file : ℕ → HeaderRecord → Image → Result (Unit {0}) Fault
 tables_in_file file_length header image = and_then (loaded_l1_table header image) (λ l1.
     and_then (loaded_reftable header image) (λ reftable.
-    let file = div_ceil file_length (2 ^ header.v2.cluster_bits) in
-    elim (missing_use file (tables_list (image_tables header l1 reftable))) [
+    elim (missing_use (file_clusters file_length header) (tables_list (image_tables header l1 reftable))) [
       | None ↦ Ok tt
       | Some one ↦ Err TablePlace
     ]))

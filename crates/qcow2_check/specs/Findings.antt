@@ -16,6 +16,8 @@ use Rattle.qcow2_check.specs.NamedTables.{loaded_l1_table}
 use Rattle.qcow2_check.specs.Tally.{TallyState, ClusterUse, cell_at, cell_with, mark_of}
 use Rattle.qcow2_check.specs.Uses.{ImageTables, all_load, image_uses, uses_of}
 use Rattle.qcow2_check.specs.declared.findings.Finding.{Finding}
+use Rattle.qcow2_check.specs.declared.findings.Sought.{Sought}
+use Rattle.qcow2_check.specs.declared.findings.Sought.TheVariants.{Used, Wrong}
 use Rattle.qcow2_check.specs.declared.tally.TallyKind.{TallyKind}
 use Rattle.qcow2_check.specs.declared.tally.TallyKind.TheVariants.{Fixed, L2Table}
 
@@ -56,8 +58,14 @@ is_leaked finding = nat_lt finding.uses finding.counter
 abbrev pub is_missing : Finding → Bool
 is_missing finding = nat_lt finding.counter finding.uses
 
+-- whether that is what a reader seeks: a cluster that something is wrong with, or one that is used
+abbrev pub is_sought : Sought → Finding → Bool
+is_sought Wrong finding = is_wrong finding
+is_sought Used finding = nat_lt 0 finding.uses
+
 -- what a reader of findings has: the image's header, its L1 table and its counters, the uses of the clusters of a part of
--- the image where they are counted, what their count found out about copied flags, and the cluster that it has come to
+-- the image where they are counted, what their count found out about copied flags, the cluster that it has come to, and
+-- which ones it seeks
 pub record FindingsState : Type 0 where
   pub header : HeaderRecord
   pub l1 : List ℕ
@@ -65,6 +73,7 @@ pub record FindingsState : Type 0 where
   pub tally : Option TallyState
   pub marks : MarksState
   pub position : ℕ
+  pub sought : Sought
 
 -- the tables of the image that a reader reads
 abbrev pub tables_of : FindingsState → ImageTables
@@ -91,29 +100,49 @@ pub record MovesFindings (image : StorageState) (old new : FindingsState) : Type
   }
   pub kept : OnImage image (λ bytes. IsFindingsOf bytes new)
 
--- nothing is wrong with the clusters from one on to before another
-abbrev pub AreRight : ImageTables → Image → ℕ → ℕ → Type 0
-AreRight tables image from to = (c : ℕ) → from ≤ c → c < to → is_wrong (finding_at tables image c) ≡ false
+-- a reader of findings is before the first
+abbrev pub IsBegun : FindingsState → Type 0
+IsBegun reader = (reader.position ≡ 0) × (reader.sought ≡ Wrong)
 
--- the findings among that many clusters from one on, in the order of clusters
-unfoldable pub findings_from : ImageTables → Image → ℕ → ℕ → List Finding
-findings_from tables image from zero = []
-findings_from tables image from (suc count) =
+-- none of the clusters from one on to before another is sought
+abbrev pub NoneSought : Sought → ImageTables → Image → ℕ → ℕ → Type 0
+NoneSought sought tables image from to =
+    (c : ℕ) → from ≤ c → c < to → is_sought sought (finding_at tables image c) ≡ false
+
+-- nothing is wrong with them
+abbrev pub AreRight : ImageTables → Image → ℕ → ℕ → Type 0
+AreRight tables image from to = NoneSought Wrong tables image from to
+
+-- what is found at the clusters that are sought among that many from one on, in their order
+unfoldable pub sought_from : Sought → ImageTables → Image → ℕ → ℕ → List Finding
+sought_from sought tables image from zero = []
+sought_from sought tables image from (suc count) =
     let finding = finding_at tables image from in
-    let rest = findings_from tables image (from + 1) count in
-    if is_wrong finding then finding ∷ rest else rest
+    let rest = sought_from sought tables image (from + 1) count in
+    if is_sought sought finding then finding ∷ rest else rest
+
+-- the findings among them
+abbrev pub findings_from : ImageTables → Image → ℕ → ℕ → List Finding
+findings_from tables image from count = sought_from Wrong tables image from count
 
 -- all findings of an image with these tables
 abbrev pub image_findings : ImageTables → Image → List Finding
 image_findings tables image = findings_from tables image 0 max_file_length
 
--- the findings that a reader comes to yet
+-- what is found at the used clusters past the end of a file of that many clusters
+abbrev pub past_findings : ℕ → ImageTables → Image → List Finding
+past_findings file tables image = sought_from Used tables image file (max_file_length - file)
+
+-- no cluster past that end is used
+abbrev pub EndsWithin : ℕ → ImageTables → Image → Type 0
+EndsWithin file tables image = (c : ℕ) → file ≤ c → c < max_file_length → uses_of (image_uses tables image) c ≡ 0
+
+-- what a reader finds yet
 abbrev pub findings_left : FindingsState → Image → List Finding
 findings_left reader image =
-    findings_from (tables_of reader) image reader.position (max_file_length - reader.position)
+    sought_from reader.sought (tables_of reader) image reader.position (max_file_length - reader.position)
 
--- what a reader returns of the findings that it comes to yet: the first, or nothing where there is none. After a fault all are
--- left
+-- what a reader returns of what it finds yet: the first, or nothing where there is none. After a fault all are left
 abbrev pub TakesFinding : List Finding → List Finding → Result (Option Finding) Fault → Type 0
 TakesFinding before after (Ok None) = before ≡ []
 TakesFinding before after (Ok (Some finding)) = before ≡ finding ∷ after
@@ -125,14 +154,15 @@ GoesPast from (Ok (Some finding)) to = (from ≤ finding.cluster.0) × (to ≡ f
 GoesPast from (Ok None) to = (from ≤ to) × (to ≡ max_file_length)
 GoesPast from (Err fault) to = from ≤ to
 
--- what a reader returns, and the cluster that it comes to: nothing is wrong with the clusters that it passes, but that the
--- last of them is what it finds
+-- what a reader returns, and the cluster that it comes to: it seeks none of the clusters that it passes, but that the last of
+-- them is what it finds
 abbrev pub PassesFinding : StorageState → FindingsState → Result (Option Finding) Fault → ℕ → Type 0
 PassesFinding image reader (Ok (Some finding)) to = (reader.position ≤ finding.cluster.0) × (to ≡ finding.cluster.0 + 1)
     × OnImage image (λ bytes. (finding ≡ finding_at (tables_of reader) bytes finding.cluster.0)
-    × (is_wrong finding ≡ true) × AreRight (tables_of reader) bytes reader.position finding.cluster.0)
+    × (is_sought reader.sought finding ≡ true)
+    × NoneSought reader.sought (tables_of reader) bytes reader.position finding.cluster.0)
 PassesFinding image reader answer to = (reader.position ≤ to)
-    × OnImage image (λ bytes. AreRight (tables_of reader) bytes reader.position to)
+    × OnImage image (λ bytes. NoneSought reader.sought (tables_of reader) bytes reader.position to)
 
 -- the tables of an image with this header that can be checked, or the first fault: a part that isn't read here, or that of the
 -- L1 table, of the refcount table, of the place of a block, or of an L2 table

@@ -1,13 +1,14 @@
-//! Refuses an image whose file ends before tables or refcount blocks that it names.
+//! The end of an image's file: which tables and refcount blocks that the image names lie past it.
 
 ghost use Rattle.std.specs.Prelude.{◌≡◌, IfOk, IsOkUnless, None, refl};
+ghost use Rattle.qcow2_base.specs.Storage.{OnImage, OnlyReads};
 ghost use Rattle.std.specs.List.{fold};
 ghost use Rattle.std.proofs.Common.{arith};
 ghost use Rattle.std.proofs.lemmas.Grind.{fold-append};
-ghost use Rattle.qcow2_base.specs.declared.fault.Fault.TheVariants.{NoMemory};
+ghost use Rattle.qcow2_base.specs.declared.fault.Fault.TheVariants.{NoMemory, Storage as StorageFailed};
 ghost use Rattle.qcow2_metadata.specs.Results.{Reads};
 ghost use Rattle.qcow2_check.specs.Counters.{IsTablesFault};
-ghost use Rattle.qcow2_check.specs.FileEnd.{file_end_after, has_use, missing_use, tables_in_file};
+ghost use Rattle.qcow2_check.specs.FileEnd.{file_clusters, file_end_after, has_use, missing_use, tables_in_file};
 ghost use Rattle.qcow2_check.specs.Walk.{tables_list};
 
 use crate::image_tables::ImageTables;
@@ -15,7 +16,7 @@ use crate::named_tables::{load_l1_table, load_reftable};
 use crate::use_sink::UseSink;
 use crate::uses::{Use, UseKind};
 use crate::walk::walk_tables;
-use qcow2_base::{ClusterCount, Device, Fault};
+use qcow2_base::{ClusterCount, Device, Fault, MAX_FILE_LENGTH};
 use qcow2_metadata::Header;
 use std::alloc::Global;
 
@@ -66,6 +67,23 @@ impl UseSink for FileEnd {
     ghost takes_none = { λ s. refl };
 
     ghost takes_both = { λ first second a b c one other. Prim.grind (arith, one, other, fold-append) };
+}
+
+/// Returns the number of clusters in the file of an image with this header, the last of which may be partial.
+/// If the length isn't known, that is as many as any image can have. Changes no byte.
+pub(crate) fn file_clusters<S: Device>(
+    image: &mut S,
+    header: &Header,
+) -> Result<ClusterCount, Fault>
+    ensures clusters { IfOk result (λ clusters. OnImage (S.state image.old) (λ _.
+        clusters.0 ≡ file_clusters (S.state image.old).len header.now)) }
+    ensures fault { IsOkUnless result StorageFailed }
+    ensures storage { OnlyReads result (S.state image.old) (S.state image.new) }
+{
+    let Some(len) = image.len()? else {
+        return Ok(ClusterCount(MAX_FILE_LENGTH));
+    };
+    Ok(ClusterCount::from_byte_size(len, header.cluster_bits()))
 }
 
 // The first table or refcount block of an image with these tables that has a cluster past the end of a file

@@ -6,18 +6,19 @@ ghost use Rattle.qcow2_base.specs.Storage.{OnImage, OnlyReads};
 ghost use Rattle.qcow2_metadata.specs.Header.{geometry_of};
 ghost use Rattle.qcow2_metadata.specs.Results.{IsFromOutside, Reads};
 ghost use Rattle.qcow2_metadata.specs.Table.{IsEntryFault};
-ghost use Rattle.qcow2_check.specs.Findings.{CountsAll, is_leaked, is_missing, is_wrong};
+ghost use Rattle.qcow2_check.specs.Findings.{CountsAll, is_leaked, is_missing, is_sought, is_wrong};
 ghost use Rattle.qcow2_check.specs.Tally.{cell_at, is_shared_cell};
 ghost use Rattle.qcow2_check.specs.Uses.{all_load, image_tables};
 
 use crate::counters::Counters;
+use crate::file_end::file_clusters;
 use crate::flags::{Flags, Marks};
 use crate::image_tables::{ImageTables, OpenTables, open_tables};
 use crate::repeats::Repeats;
 use crate::soles::Soles;
 use crate::tally::{Tally, count_of, is_shared};
 use crate::windows::Windows;
-use qcow2_base::{Fault, HostCluster, MAX_FILE_LENGTH, Storage};
+use qcow2_base::{ClusterCount, Device, Fault, HostCluster, MAX_FILE_LENGTH, Storage};
 use qcow2_metadata::{Header, L1Table, RefBlock, RefTable, Table};
 use std::alloc::Global;
 use std::marker::Model;
@@ -25,7 +26,8 @@ use std::marker::Model;
 // The number of clusters that are compared as one group.
 const TOGETHER: usize = 64;
 
-/// A host cluster whose refcount isn't its number of references, or whose references exclude each other.
+/// A host cluster whose refcount isn't its number of references, or whose references exclude each other. Or
+/// one that begins past the end of the image's file, and has references.
 #[derive(Clone, Copy, Debug, PartialEq, Eq)]
 pub struct Finding {
     pub cluster: HostCluster,
@@ -37,7 +39,27 @@ pub struct Finding {
     pub shared: bool,
 }
 
+/// The clusters that a reader of findings returns.
+#[derive(Clone, Copy, Debug)]
+pub enum Sought {
+    /// Those whose refcount isn't their number of references, or whose references exclude each other.
+    Wrong,
+    /// Those that have references.
+    Used,
+}
+
 impl Finding {
+    // Whether a reader of such clusters returns this one.
+    #[inline]
+    fn is_sought(&self, sought: Sought) -> bool
+        ensures { result ≡ is_sought sought self.now }
+    {
+        match sought {
+            Sought::Wrong => self.is_wrong(),
+            Sought::Used => self.uses > 0,
+        }
+    }
+
     // Whether the refcount is wrong or the references exclude each other.
     #[inline]
     fn is_wrong(&self) -> bool
@@ -63,7 +85,7 @@ impl Finding {
 
 /// A reader of an image's findings, one after another. It holds the L1 table, the refcount table, a refcount
 /// block, the reference counts of some of the image's clusters, and what their count found out about copied
-/// flags. Contracts see these and the cluster that the reader has reached.
+/// flags. Contracts see these, the cluster that the reader has reached, and which clusters it returns.
 #[derive(Drop)]
 pub struct Findings<'a> {
     header: &'a Header,
@@ -73,6 +95,7 @@ pub struct Findings<'a> {
     tally: Option<Tally>,
     marks: Marks,
     position: u64,
+    sought: Sought,
     windows: Windows,
 }
 
@@ -94,6 +117,7 @@ impl<'a> Model for Findings<'a> {
       tally = f.tally;
       marks = f.marks;
       position = f.position;
+      sought = f.sought;
     } };
 
     ghost invariant = { λ f. (f.l1_table.geometry ≡ geometry_of f.header.now)
@@ -173,14 +197,16 @@ fn is_right(counter: u64, cell: u64) -> bool
 }
 
 impl<'a> Findings<'a> {
-    ghost use Rattle.std.specs.Prelude.{◌≡◌, ◌<◌, ◌≤◌, [], Ok, Err, None, Some, false, IfErr, IfOk, IfSome, IsSome, IsSomeAnd, IsTrue, OnOk, is_some, length, ◌+◌, ◌↔◌};
+    ghost use Rattle.std.specs.Prelude.{◌≡◌, ◌<◌, ◌≤◌, [], Ok, Err, None, Some, false, IfErr, IfOk, IfSome, IsOkUnless, IsSome, IsSomeAnd, IsTrue, OnOk, is_some, length, ◌+◌, ◌↔◌};
     ghost use Rattle.qcow2_base.specs.Format.{max_file_length, most_l1_entries, most_reftable_entries};
     ghost use Rattle.qcow2_base.specs.Storage.{Image, OnImage, OnlyReads};
     ghost use Rattle.qcow2_check.specs.Counters.{block_of_cluster, blocks_fault, counter_of};
-    ghost use Rattle.qcow2_base.specs.declared.fault.Fault.TheVariants.{Uncounted};
+    ghost use Rattle.qcow2_base.specs.declared.fault.Fault.TheVariants.{Storage as StorageFailed, Uncounted};
+    ghost use Rattle.qcow2_check.specs.FileEnd.{file_clusters};
     ghost use Rattle.qcow2_metadata.specs.Header.{uncounted_part};
     ghost use Rattle.qcow2_metadata.specs.Placed.{place_fault};
-    ghost use Rattle.qcow2_check.specs.Findings.{AreRight, GoesPast, IsCheckFault, IsFindingsOf, IsLaterFault, MovesFindings, PassesFinding, TakesFinding, checked_tables, finding_at, findings_left, is_wrong, tables_of};
+    ghost use Rattle.qcow2_check.specs.Findings.{AreRight, GoesPast, IsBegun, IsCheckFault, IsFindingsOf, IsLaterFault, MovesFindings, NoneSought, PassesFinding, TakesFinding, checked_tables, finding_at, findings_left, past_findings, tables_of};
+    ghost use Rattle.qcow2_check.specs.declared.findings.Sought.TheVariants.{Used};
     ghost use Rattle.qcow2_check.specs.Flags.{IsFlagsOf, flags_left, image_flags};
     ghost use Rattle.qcow2_check.specs.NamedTables.{l1_cluster, l1_layout};
 
@@ -198,7 +224,7 @@ impl<'a> Findings<'a> {
         ensures uncounted { IfSome (uncounted_part header.now) (λ part. result ≡ Err (Uncounted part)) }
         ensures reads { Reads tables_of result (checked_tables header.now) (IsCheckFault header.now)
             (S.state image.old) (S.state image.new) }
-        ensures begun { IfOk result (λ findings. (findings.header ≡ header.now) × (findings.position ≡ 0)) }
+        ensures begun { IfOk result (λ findings. (findings.header ≡ header.now) × IsBegun findings) }
         ensures reader { IfOk result (λ findings. OnImage (S.state image.old) (λ bytes.
             IsFindingsOf bytes findings)) }
     {
@@ -223,6 +249,7 @@ impl<'a> Findings<'a> {
             tally: Some(tally),
             marks,
             position: 0,
+            sought: Sought::Wrong,
             windows,
         })
     }
@@ -248,6 +275,44 @@ impl<'a> Findings<'a> {
             }
         }
         Ok(None)
+    }
+
+    /// Turns the reader into one of the clusters that have references though they begin past the end of the
+    /// image's file, whether their refcounts are right or not. It is before the first of them, and finds none
+    /// if the file's length isn't known. The image must be the one that the reader was made for.
+    ///
+    /// Fails if the storage fails. Changes no byte.
+    pub fn into_past_end<S: Device>(self, image: &mut S) -> Result<Findings<'a>, Fault>
+        ensures left { IfOk result (λ past. OnImage (S.state image.old) (λ bytes. findings_left past bytes
+            ≡ past_findings (file_clusters (S.state image.old).len self.entry.header)
+            (tables_of self.entry) bytes)) }
+        ensures tables { IfOk result (λ past. tables_of past ≡ tables_of self.entry) }
+        ensures reader { IfOk result (λ past. (bytes : Image) →
+            IsFindingsOf bytes self.entry → IsFindingsOf bytes past) }
+        ensures fault { IsOkUnless result StorageFailed }
+        ensures storage { OnlyReads result (S.state image.old) (S.state image.new) }
+    {
+        let clusters = file_clusters(image, self.header)?;
+        Ok(self.past(clusters))
+    }
+
+    // The same for a file of that many clusters.
+    #[tactic(auto, using(crate::proofs::FindingsListLemmas::past_left))]
+    fn past(self, clusters: ClusterCount) -> Findings<'a>
+        ensures same { result
+            ≡ record self.entry { tally = result.tally; position = result.position; sought = Used } }
+        ensures left { (image : Image) →
+            findings_left result image ≡ past_findings clusters.0 (tables_of self.entry) image }
+        ensures reader { (image : Image) → IsFindingsOf image self.entry → IsFindingsOf image result }
+    {
+        let mut past = self;
+        let position = clusters.0.min(MAX_FILE_LENGTH);
+        if !past.can_go_on_from(position) {
+            past.tally = None;
+        }
+        past.position = position;
+        past.sought = Sought::Used;
+        past
     }
 
     /// Turns the reader into one of the same image's wrong copied flags, before the first of them. It takes
@@ -334,9 +399,28 @@ impl<'a> Findings<'a> {
         })
     }
 
+    // A counted cluster before which, from the reader's position on, none is sought, or the end of the
+    // counted ones. It may not be sought itself.
+    fn candidate(&self) -> u64
+        requires some { IsSome self.now.tally }
+        requires before { IfSome self.now.tally (λ tally. self.now.position < tally.end) }
+        ensures from { self.now.position ≤ result }
+        ensures within { IfSome self.now.tally (λ tally. result ≤ tally.end) }
+        ensures none { (image : Image) → IsFindingsOf image self.now →
+            NoneSought self.now.sought (tables_of self.now) image self.now.position result }
+    {
+        match self.sought {
+            Sought::Wrong => self.wrong_candidate(),
+            Sought::Used => {
+                let tally = self.tally.as_ref().unwrap();
+                tally.next_used(self.position, tally.end())
+            }
+        }
+    }
+
     // A counted cluster before which, from the reader's position on, all are right, or the end of the counted
     // ones. It may be right itself.
-    fn candidate(&self) -> u64
+    fn wrong_candidate(&self) -> u64
         requires some { IsSome self.now.tally }
         requires before { IfSome self.now.tally (λ tally. self.now.position < tally.end) }
         ensures from { self.now.position ≤ result }
@@ -365,9 +449,9 @@ impl<'a> Findings<'a> {
         }
     }
 
-    // Moves the reader past a counted cluster that may be wrong, and returns the cluster's finding if it is.
+    // Moves the reader past a counted cluster that may be sought, and returns the cluster's finding if it is.
     // Stops at the end of the counted clusters.
-    #[tactic(auto, using(crate::proofs::FindingsLemmas::right_more))]
+    #[tactic(auto, using(crate::proofs::FindingsLemmas::none_more))]
     fn pass_counted<S: Storage>(&mut self, image: &mut S) -> Result<Option<Finding>, Fault>
         requires some { IsSome self.old.tally }
         requires before { IfSome self.old.tally (λ tally. self.old.position < tally.end) }
@@ -386,13 +470,13 @@ impl<'a> Findings<'a> {
         }
         let finding = self.look_at(image, cluster)?;
         self.position = cluster + 1;
-        if finding.is_wrong() {
+        if finding.is_sought(self.sought) {
             return Ok(Some(finding));
         }
         Ok(None)
     }
 
-    // Moves the reader past one or more clusters, and returns the finding of the last if it is wrong. Counts
+    // Moves the reader past one or more clusters, and returns the finding of the last if it is sought. Counts
     // their references first unless they are counted.
     fn step<S: Storage>(&mut self, image: &mut S) -> Result<Option<Finding>, Fault>
         requires before { self.old.position < max_file_length }
@@ -406,6 +490,17 @@ impl<'a> Findings<'a> {
     {
         self.keep_window(image)?;
         self.pass_counted(image)
+    }
+
+    // Whether the reader can go on from a cluster with the references that it has counted.
+    fn can_go_on_from(&self, cluster: u64) -> bool
+        ensures { IsTrue result → IfSome self.now.tally (λ tally.
+            (tally.first ≤ cluster) × (cluster ≤ tally.end)) }
+    {
+        match &self.tally {
+            Some(tally) => tally.first() <= cluster && cluster <= tally.end(),
+            None => false,
+        }
     }
 
     // Whether the references to the reader's cluster are counted.

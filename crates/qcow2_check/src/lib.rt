@@ -24,7 +24,7 @@ mod windows;
 pub use counters::{Counters, counted_end, zero_groups};
 pub use counting::{cluster_bounds, refers};
 pub use file_end::{FileEnd, refuse_tables_past_end};
-pub use findings::{Finding, Findings};
+pub use findings::{Finding, Findings, Sought};
 pub use flags::{FlagPlace, Flags, WrongFlag, flagged_cluster};
 pub use groups::{entry_at, row_at};
 pub use image_tables::{ImageTables, OpenTables, open_tables};

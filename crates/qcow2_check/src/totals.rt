@@ -1,13 +1,13 @@
 //! The sums of a check by kind of error, and the verdict on them.
 
-ghost use Rattle.std.specs.Prelude.{◌≡◌, ◌+◌, if◌then◌else◌, IfErr, IfOk, IsOkUnless};
+ghost use Rattle.std.specs.Prelude.{◌≡◌, ◌+◌, if◌then◌else◌, IfErr, IfOk, IsOkUnless, length};
 ghost use Rattle.qcow2_base.specs.Storage.{OnImage, OnlyReads};
 ghost use Rattle.qcow2_base.specs.declared.fault.Fault.TheVariants.{NoMemory};
-ghost use Rattle.qcow2_check.specs.Findings.{IsLaterFault};
+ghost use Rattle.qcow2_check.specs.Findings.{IsFindingsOf, IsLaterFault, MovesFindings, findings_left};
 ghost use Rattle.qcow2_check.specs.Flags.{IsFlagsOf, MovesFlags, flags_left};
-ghost use Rattle.qcow2_check.specs.Totals.{corruptions_in, harms_nobody, is_harmed, no_totals, verdict_in, verdict_of, with_clusters, with_flag, with_flags};
+ghost use Rattle.qcow2_check.specs.Totals.{corruptions_in, harms_nobody, is_harmed, no_totals, verdict_in, verdict_of, with_clusters, with_flag, with_flags, with_past};
 
-use crate::findings::Finding;
+use crate::findings::{Finding, Findings};
 use crate::flags::{Flags, WrongFlag};
 use crate::l1_length::is_l1_short;
 use crate::verdict::Verdict;
@@ -23,6 +23,8 @@ pub struct Totals {
     pub missing: u64,
     /// Clusters whose references exclude each other.
     pub shared: u64,
+    /// Clusters that have references though they begin past the end of the image's file.
+    pub past: u64,
     /// Copied flags that are set though the cluster's refcount isn't 1.
     pub false_flags: u64,
     /// Copied flags that aren't set though the refcount is 1 or the cluster has none.
@@ -61,6 +63,7 @@ impl Totals {
             leaked: 0,
             missing: 0,
             shared: 0,
+            past: 0,
             false_flags: 0,
             late_flags: 0,
         }
@@ -79,6 +82,18 @@ impl Totals {
         })
     }
 
+    /// Adds `count` clusters past the end of the image's file to the totals. Fails if the sum doesn't fit 64
+    /// bits (fault 35).
+    pub fn with_past(self, count: u64) -> Result<Totals, Fault>
+        ensures fault { IsOkUnless result NoMemory }
+        ensures totals { IfOk result (λ totals. totals ≡ with_past self count) }
+    {
+        Ok(Totals {
+            past: sum(self.past, count)?,
+            ..self
+        })
+    }
+
     /// Adds a wrong flag to the totals. Fails if a sum doesn't fit 64 bits (fault 35).
     pub fn with_flag(self, flag: &WrongFlag) -> Result<Totals, Fault>
         ensures fault { IsOkUnless result NoMemory }
@@ -89,6 +104,28 @@ impl Totals {
             late_flags: sum(self.late_flags, u64::from(!flag.is_set))?,
             ..self
         })
+    }
+
+    /// Adds all clusters that a reader of clusters past the end of the image's file has left to the totals.
+    ///
+    /// Fails if the storage fails or memory runs out. Changes no byte.
+    pub fn with_past_left<S: Storage>(
+        self,
+        past: &mut Findings<'_>,
+        image: &mut S,
+    ) -> Result<Totals, Fault>
+        requires { OnImage (S.state image.old) (λ bytes. IsFindingsOf bytes past.old) }
+        ensures totals { IfOk result (λ totals. OnImage (S.state image.old) (λ bytes.
+            totals ≡ with_past self (length (findings_left past.old bytes)))) }
+        ensures reader { MovesFindings (S.state image.old) past.old past.new }
+        ensures fault { IfErr result (IsLaterFault (S.state image.old)) }
+        ensures storage { OnlyReads result (S.state image.old) (S.state image.new) }
+    {
+        let mut totals = self;
+        while past.next(image)?.is_some() {
+            totals = totals.with_past(1)?;
+        }
+        Ok(totals)
     }
 
     /// Adds all wrong flags that a reader has left to the totals.
@@ -121,7 +158,8 @@ impl Totals {
         ensures fault { IsOkUnless result NoMemory }
         ensures sum { IfOk result (λ sum. sum ≡ corruptions_in header.now self.now) }
     {
-        let found = sum(sum(self.missing, self.false_flags)?, self.late_flags)?;
+        let clusters = sum(self.missing, self.past)?;
+        let found = sum(sum(clusters, self.false_flags)?, self.late_flags)?;
         sum(found, u64::from(is_l1_short(header)))
     }
 
@@ -129,7 +167,7 @@ impl Totals {
     fn harms_nobody(&self) -> bool
         ensures { result ≡ harms_nobody self.now }
     {
-        self.missing == 0 && self.shared == 0 && self.false_flags == 0
+        self.missing == 0 && self.shared == 0 && self.past == 0 && self.false_flags == 0
     }
 
     // The verdict on the findings alone, whatever the header says.

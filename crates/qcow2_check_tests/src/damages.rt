@@ -1,7 +1,7 @@
 //! Readers of damaged images: findings, wrong flags, consistency, and the images that they refuse.
 
 use crate::layout::runs_of;
-use crate::readers::{findings_of, flags_of, is_image_consistent};
+use crate::readers::{findings_of, flags_of, is_image_consistent, past_end_of};
 use qcow2_testing::damages::{Damage, Refused, damages, refused_images};
 use qcow2_testing::sample_image::sample_image;
 use qcow2_testing::{all_same, each, same};
@@ -17,6 +17,23 @@ fn check_findings(alloc: Global, row: Damage) -> Result<(), Fail> {
 fn findings_are_the_clusters_whose_counter_or_uses_are_wrong(rt: HostRuntime) -> Result<(), Fail> {
     for rows in damages() {
         each(rt.alloc(), rows, check_findings)?;
+    }
+    Ok(())
+}
+
+fn check_past(alloc: Global, row: Damage) -> Result<(), Fail> {
+    let mut image = sample_image(alloc, 9, row.changes)?;
+    for before in [0, 1, 1000] {
+        let found = past_end_of(alloc, &mut image, before)?;
+        same(found.as_slice(), row.past, row.name)?;
+    }
+    Ok(())
+}
+
+#[test]
+fn clusters_past_the_end_are_those_with_references_there(rt: HostRuntime) -> Result<(), Fail> {
+    for rows in damages() {
+        each(rt.alloc(), rows, check_past)?;
     }
     Ok(())
 }

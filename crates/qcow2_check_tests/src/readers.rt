@@ -40,6 +40,40 @@ fn read_findings<S: Storage>(
     Ok(())
 }
 
+/// Returns the clusters past the end of an image that have references, in order, the first hundred at most.
+/// The reader has returned `before` of the image's findings then.
+pub(crate) fn past_end_of<S: Device>(
+    alloc: Global,
+    image: &mut S,
+    before: usize,
+) -> Result<Vec<FoundCluster>, Fault> {
+    let header = header_of(alloc, image)?;
+    let mut found = Vec::new(alloc);
+    read_past(alloc, image, &header, before, &mut found)?;
+    Ok(found)
+}
+
+fn read_past<S: Device>(
+    alloc: Global,
+    image: &mut S,
+    header: &Header,
+    before: usize,
+    found: &mut Vec<FoundCluster>,
+) -> Result<(), Fault> {
+    let mut findings = Findings::new(alloc, image, header)?;
+    for _ in 0..before {
+        findings.next(image)?;
+    }
+    let mut past = findings.into_past_end(image)?;
+    for _ in 0..100 {
+        let Some(finding) = past.next(image)? else {
+            return Ok(());
+        };
+        found.push(cluster_of(&finding))?;
+    }
+    Ok(())
+}
+
 fn cluster_of(finding: &Finding) -> FoundCluster {
     FoundCluster {
         cluster: finding.cluster.0,

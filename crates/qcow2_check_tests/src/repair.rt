@@ -14,7 +14,7 @@ fn check_repaired(alloc: Global, row: Repair) -> Result<(), Fail> {
     same(repaired(alloc, &mut image), Ok(()), row.name)?;
     check_sample(alloc, image.bytes(), (9, row.left), row.name)?;
     let found = is_image_consistent(alloc, &mut image);
-    same(found, Ok(row.is_consistent()), row.name)
+    same(found, Ok(row.agrees()), row.name)
 }
 
 #[test]

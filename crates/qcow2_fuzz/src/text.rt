@@ -44,6 +44,7 @@ pub(crate) struct Totals {
     pub(crate) leaked: u64,
     pub(crate) missing: u64,
     pub(crate) shared: u64,
+    pub(crate) past: u64,
     pub(crate) false_flags: u64,
     pub(crate) late_flags: u64,
 }
@@ -82,13 +83,14 @@ impl Totals {
         leaked: 0,
         missing: 0,
         shared: 0,
+        past: 0,
         false_flags: 0,
         late_flags: 0,
     };
 
     /// Whether the totals have something that may destroy data.
     pub(crate) fn has_errors(&self) -> bool {
-        self.missing != 0 || self.shared != 0 || self.false_flags != 0
+        self.missing != 0 || self.shared != 0 || self.past != 0 || self.false_flags != 0
     }
 }
 
@@ -214,10 +216,15 @@ pub(crate) fn totals_in(text: &str) -> Option<Totals> {
     let (shared, line) = first_total(line, "shared")?;
     let (false_flags, line) = first_total(line, "false")?;
     let (late_flags, line) = first_total(line, "late")?;
+    let (past, line) = match line {
+        "" => (0, line),
+        _ => first_total(line, "past")?,
+    };
     line.is_empty().then_some(Totals {
         leaked,
         missing,
         shared,
+        past,
         false_flags,
         late_flags,
     })

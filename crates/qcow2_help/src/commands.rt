@@ -139,6 +139,7 @@ prints a line for each error, and last `consistent`, or how many clusters and fl
   leaked FIRST COUNT COUNTER USES   COUNT clusters from FIRST on: refcount COUNTER, fewer references, USES
   missing FIRST COUNT COUNTER USES  more references than the refcount: a program may overwrite the clusters
   shared FIRST COUNT COUNTER USES   the header, a table or a refcount block is there, and something else too
+  past FIRST COUNT COUNTER USES     clusters in use begin past the end of the file: it may have been cut short
   false PLACE CLUSTER COUNTER       an entry's copied flag is set, and the refcount isn't 1
   late PLACE CLUSTER COUNTER        the flag isn't set, and the refcount is 1, or `none` in external data
   dirty                             the image is marked dirty: a program stopped before it wrote all refcounts
@@ -149,8 +150,7 @@ PLACE is `l1 INDEX`, or the guest offset of an L2 entry. With `json` it prints n
 --output=json` does. With `repair` it corrects refcounts and flags first, and clears the marks if nothing
 stays wrong; without it, it only reads.
 
-Status 0: consistent. 1: a fault. 3: only leaks and late flags, which harm nobody if the file is whole.
-4: anything worse.
+Status 0: consistent. 1: a fault. 3: only leaks and late flags, which harm nobody. 4: anything worse.
 Faults: those of `info`; 37 with snapshots, bitmaps or LUKS encryption; 18 to 21 of the tables. With
 `repair` also 39 if another process has the image open, 41 if the L1 table is too short, 21 if a table lies
 past the end of the image's file, and 38, 30 or 24 if the image can't be repaired.

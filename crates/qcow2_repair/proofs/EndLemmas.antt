@@ -1,5 +1,6 @@
-use Rattle.std.proofs.Common.{◌≡◌, ℕ, Bool, true, false, IsSome, IsTrue, List, Option, Result, Ok, Err, inl, inr, refl, sym, subst, ◌∙◌, arith}
+use Rattle.std.proofs.Common.{◌≡◌, ℕ, Bool, true, false, ◌<◌, ◌≤◌, IsSome, IsTrue, List, Option, Result, Ok, Err, inl, inr, refl, sym, ap, subst, ◌∙◌, arith}
 use Rattle.std.proofs.lemmas.Bool.Decides.{nat_tests}
+use Rattle.qcow2_base.specs.Format.{max_file_length}
 use Rattle.qcow2_base.specs.Storage.{Image, IsBytes, OnImages, SameOutside, StorageState}
 use Rattle.qcow2_base.specs.declared.fault.Fault.{Fault}
 use Rattle.qcow2_base.specs.declared.fault.Fault.TheVariants.{Storage}
@@ -9,13 +10,15 @@ use Rattle.qcow2_metadata.specs.Header.{HeaderRecord, IsValidHeader}
 use Rattle.qcow2_metadata.specs.Header.Open.{SaysSame}
 use Rattle.qcow2_metadata.specs.Results.{Reads}
 use Rattle.qcow2_check.specs.Counters.{block_of_cluster}
+use Rattle.qcow2_check.specs.Findings.{EndsWithin}
 use Rattle.qcow2_check.specs.Failures.{ReportsFailures, TearsAtMost}
-use Rattle.qcow2_check.specs.Uses.{ImageTables}
+use Rattle.qcow2_check.specs.Uses.{ImageTables, uses_of}
 use Rattle.qcow2_summary.specs.Consistency.{IsConsistent}
 use Rattle.qcow2_repair.proofs.FoundLemmas.{checked-found, kept-found-written, repairable-found-written}
 use Rattle.qcow2_repair.proofs.HeaderLemmas.{found-fault}
 use Rattle.qcow2_repair.proofs.LeftLemmas.{consistent-repaired}
-use Rattle.qcow2_repair.proofs.RefusalsLemmas.{nothing-counts}
+use Rattle.qcow2_repair.proofs.StagesLemmas.{uses-repaired}
+use Rattle.qcow2_repair.proofs.RefusalsLemmas.{nothing-counts, nothing-past}
 use Rattle.qcow2_repair.specs.Left.{CountsUsed}
 use Rattle.qcow2_repair.specs.Refusals.{IsRepairRefusal, leaves_nothing, repair_within}
 use Rattle.qcow2_repair.specs.Repair.{ClearsMarks, EndsMarks, EndsRepair, HasPassed, RepairsImage, TellsPassed, image_uses_of, tables_in}
@@ -37,7 +40,7 @@ refused-past-end header fault old new reads = record {
 
 -- a repair but for its marks ended in this answer
 abbrev pub Passes : HeaderRecord → Result (HeaderRecord × Bool) Fault → StorageState → StorageState → Type 0
-Passes header = EndsRepair header (λ done. TellsPassed header done.0 done.1)
+Passes header = EndsRepair header (λ file. TellsPassed file header)
 
 -- in a fault
 pub passes-failed : (header : HeaderRecord) (fault : Fault) (old new : StorageState) → Passes header (Err fault) old new
@@ -113,10 +116,10 @@ block-said header written reftable c says =
     (subst (λ v2. block_of_cluster (record written { v2 = v2; base = record header.base { autoclear_features = written.base.autoclear_features; header_length = written.base.header_length } }) reftable c ≡ block_of_cluster header reftable c) (sym says.v2) refl)
 
 -- an image in which a repair leaves nothing wrong is consistent after its passes
-pub consistent-passed : (header written : HeaderRecord) (tables : ImageTables) (old passed : Image) → IsValidHeader header → IsBytes old
-    → HasPassed header written tables old passed → leaves_nothing tables old ≡ true
-    → IsConsistent (tables_in written tables.reftable passed) passed
-consistent-passed header written tables old passed valid bytes has nothing =
+pub consistent-passed : (file : ℕ) (header written : HeaderRecord) (tables : ImageTables) (old passed : Image) → IsValidHeader header → IsBytes old
+    → HasPassed header written tables old passed → leaves_nothing file tables old ≡ true
+    → IsConsistent (tables_in written tables.reftable passed) passed × EndsWithin file (tables_in written tables.reftable passed) passed
+consistent-passed file header written tables old passed valid bytes has nothing =
     let mid = has.0 in
     let is = has.1 in
     let makes = has.2 in
@@ -125,6 +128,11 @@ consistent-passed header written tables old passed valid bytes has nothing =
     let same = (checked-found header old tables is).same in
     let counts : CountsUsed (tables_in written tables.reftable mid) mid = λ c below used.
     let before : IsSome (block_of_cluster tables.header tables.reftable c) =
-    nothing-counts tables old nothing c below (rw kept.0 at used) in
+    nothing-counts file tables old nothing c below (rw kept.0 at used) in
     subst (λ found. IsSome found) (sym (block-said header written tables.reftable c says)) (rw same at before) in
-    consistent-repaired written tables.reftable mid passed (repairable-found-written header written tables old mid valid bytes is makes) has.3 counts
+    let start = repairable-found-written header written tables old mid valid bytes is makes in (
+      consistent-repaired written tables.reftable mid passed start has.3 counts,
+      λ c after before.
+          ap (λ uses. uses_of uses c) (uses-repaired written tables.reftable mid passed start has.3)
+          ∙ ap (λ uses. uses_of uses c) kept.0 ∙ nothing-past file tables old nothing c after before,
+    )

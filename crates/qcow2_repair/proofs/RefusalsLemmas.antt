@@ -1,5 +1,6 @@
-use Rattle.std.proofs.Common.{◌≡◌, ◌≢◌, ◌⊎◌, ℕ, Bool, zero, suc, false, true, ap, ◌+◌, ◌-◌, ◌*◌, ◌/◌, ◌%◌, ◌^◌, ◌<◌, ◌≤◌, List, Option, Result, Some, None, IsSome, Ok, Err, refl, ◌∙◌, subst, inl, inr, arith}
+use Rattle.std.proofs.Common.{◌≡◌, ◌≢◌, ◌⊎◌, ◌&&◌, ◌==◌, ℕ, Bool, zero, suc, false, true, length, sym, ap, ◌+◌, ◌-◌, ◌*◌, ◌/◌, ◌%◌, ◌^◌, ◌<◌, ◌≤◌, List, Option, Result, Some, None, IsSome, Ok, Err, refl, ◌∙◌, subst, inl, inr, arith}
 use Rattle.std.proofs.lemmas.Bool.{cases_lt}
+use Rattle.std.specs.Prelude.{is_some, not}
 use Rattle.std.proofs.lemmas.Bool.Decides.{nat_tests}
 use Rattle.qcow2_base.specs.Format.{max_file_length}
 use Rattle.qcow2_base.specs.Storage.{Image, IsBytes, OnImage, OnlyReads, StorageState}
@@ -13,9 +14,10 @@ use Rattle.qcow2_metadata.specs.Refblock.{greatest_counter}
 use Rattle.qcow2_metadata.specs.Results.{Reads, unless_refused}
 use Rattle.qcow2_check.proofs.CountersLemmas.{counter-fits}
 use Rattle.qcow2_summary.proofs.ReportedLemmas.{reported-within}
-use Rattle.qcow2_check.proofs.FindingsListLemmas.{pass-one, take-one}
+use Rattle.qcow2_check.proofs.FindingsListLemmas.{pass-one, take-one, unused-past}
 use Rattle.qcow2_check.specs.Counters.{block_of_cluster, blocks_fault, counter_of}
-use Rattle.qcow2_check.specs.Findings.{FindingsState, IsFindingsOf, checked_tables, finding_at, findings_from, findings_left, image_findings, is_shared, is_wrong, tables_of}
+use Rattle.qcow2_check.specs.FileEnd.{file_clusters}
+use Rattle.qcow2_check.specs.Findings.{EndsWithin, FindingsState, IsBegun, IsFindingsOf, IsLaterFault, TakesFinding, checked_tables, finding_at, findings_from, findings_left, image_findings, is_shared, is_wrong, past_findings, tables_of}
 use Rattle.qcow2_check.specs.L1Length.{is_l1_short}
 use Rattle.qcow2_check.specs.NamedTables.{loaded_l1_table}
 use Rattle.qcow2_check.specs.Uses.{ImageTables, all_load, image_tables, image_uses}
@@ -125,16 +127,59 @@ still-refused None a b fault is = grind (arith, is)
 still-refused (Some refused) a b fault is = grind (arith, is)
 
 -- the findings that a reader at the begin comes to are all of the image
-all-left : (reader : FindingsState) (image : Image) → reader.position ≡ 0 → findings_left reader image ≡ image_findings (tables_of reader) image
-all-left reader image begun = rw begun refl
+pub all-left : (reader : FindingsState) (image : Image) → IsBegun reader → findings_left reader image ≡ image_findings (tables_of reader) image
+all-left reader image begun = rw (begun.0, begun.1) refl
 
--- what is told of the findings that a reader at the begin comes to is told of the image
-pub nothing-found : (header : HeaderRecord) (reader : FindingsState) (l1 reftable : List ℕ) (image : Image) (told : Bool)
-    → reader.header ≡ header → reader.position ≡ 0 → l1 ≡ reader.l1 → reftable ≡ reader.counters.reftable
-    → told ≡ are_counted reader.header reader.counters.reftable (findings_left reader image)
-    → told ≡ leaves_nothing (image_tables header l1 reftable) image
-nothing-found header reader l1 reftable image told is begun l1_is reftable_is counted =
-    rw (l1_is, reftable_is, ← is) (rw (all-left reader image begun) at counted)
+-- a test by what its negation is
+fails : (test : Bool) → false ≡ not test → true ≡ test
+fails true is = refl
+fails false is = absurd (grind (arith, is))
+
+holds : (test : Bool) → true ≡ not test → false ≡ test
+holds true is = absurd (grind (arith, is))
+holds false is = refl
+
+-- a repair leaves nothing wrong where blocks count what a reader at the begin finds, and one past the end of a file finds nothing
+pub leaves-nothing : (reader past : FindingsState) (file : ℕ) (image : Image) (counted within : Bool) (found : Option Finding) (after : List Finding)
+    → IsBegun reader → counted ≡ are_counted reader.header reader.counters.reftable (findings_left reader image)
+    → findings_left past image ≡ past_findings file (tables_of reader) image → TakesFinding (findings_left past image) after (Ok found)
+    → is_some found ≡ not within → (counted && within) ≡ leaves_nothing file (tables_of reader) image
+leaves-nothing reader past file image counted within found after begun all left takes none = by_found found takes none
+  where
+    lists : List Finding
+    lists = past_findings file (tables_of reader) image
+
+    both : (length lists == 0) ≡ within → (counted && within) ≡ leaves_nothing file (tables_of reader) image
+    both same = ap (λ a. a && within) (all ∙ ap (are_counted reader.header reader.counters.reftable) (all-left reader image begun))
+        ∙ ap (λ b. are_counted reader.header reader.counters.reftable (image_findings (tables_of reader) image) && b) (sym same)
+
+    by_found : (found : Option Finding) → TakesFinding (findings_left past image) after (Ok found) → is_some found ≡ not within
+        → (counted && within) ≡ leaves_nothing file (tables_of reader) image
+    by_found None takes none =
+        let zero : length lists ≡ 0 = ap length (sym left ∙ takes) in
+        both (rw zero (fails within none))
+    by_found (Some finding) takes none =
+        let more : length lists ≡ suc (length after) = ap length (sym left ∙ takes) in
+        let some : (length lists == 0) ≡ false = grind (arith, nat_tests, more) in
+        both (some ∙ holds within none)
+
+-- a fault after what is found was looked at is from outside
+pub later-reads : {A B C T V : Type 0} (x : A) (y : B) (fault : Fault) (view : T → V) (meaning : Image → Result V Fault) (a b c d : StorageState)
+    → OnlyReads (Ok x) a b → OnlyReads (Ok y) b c → OnlyReads {T = C} (Err fault) c d → IsLaterFault c fault
+    → Reads {T = T} view (Err fault) meaning IsFindingRefusal a d
+later-reads x y fault view meaning a b c d one two three later = record {
+  exact = λ told. elim (later.1 (rw (two.device.tells, one.device.tells) told)) [ inl memory ↦ inr (inl memory) | inr failed ↦ inl failed ];
+  faults = elim later.0 [ inl entry ↦ inl (inl entry) | inr outside ↦ inr outside ];
+  storage = grind (arith, nat_tests, one, two, three);
+}
+
+-- what is told of a reader's tables is told of the image's
+pub nothing-found : (header : HeaderRecord) (reader : FindingsState) (l1 reftable : List ℕ) (len : ℕ) (image : Image) (told : Bool)
+    → reader.header ≡ header → l1 ≡ reader.l1 → reftable ≡ reader.counters.reftable
+    → told ≡ leaves_nothing (file_clusters len reader.header) (tables_of reader) image
+    → told ≡ leaves_nothing (file_clusters len header) (image_tables header l1 reftable) image
+nothing-found header reader l1 reftable len image told is l1_is reftable_is counted =
+    rw (l1_is, reftable_is, ← is) counted
 
 -- where blocks count what is found, nothing is wrong with a cluster, or a block counts it
 counted-each : (tables : ImageTables) (image : Image) (from count c : ℕ) → from ≤ c → c < from + count
@@ -166,6 +211,12 @@ counted-each tables image from (suc count) c after before all =
       ]
     ] refl
 
+-- two tests that both pass
+and_parts : (a b : Bool) → (a && b) ≡ true → (a ≡ true) × (b ≡ true)
+and_parts true true both = (refl, refl)
+and_parts true false both = absurd (grind (arith, both))
+and_parts false b both = absurd (grind (arith, both))
+
 -- so they count each cluster that is used
 counted-used : (tables : ImageTables) (image : Image) (c : ℕ) → 0 < image_uses_of tables image c
     → (is_wrong (finding_at tables image c) ≡ false) ⊎ IsSome (block_of_cluster tables.header tables.reftable c)
@@ -180,9 +231,15 @@ counted-used tables image c used (inl right) = by_block (block_of_cluster tables
         let zero : counter_of tables.header tables.reftable image c ≡ 0 = grind (arith, none) in
         absurd (omega (arith, used, zero, (wrong-parts (finding_at tables image c) right).0, reported-within tables image c))
 
-pub nothing-counts : (tables : ImageTables) (image : Image) → leaves_nothing tables image ≡ true → CountsUsed tables image
-nothing-counts tables image all = λ c below used.
-    counted-used tables image c used (counted-each tables image 0 max_file_length c (omega arith) (omega (arith, below)) all)
+pub nothing-counts : (file : ℕ) (tables : ImageTables) (image : Image) → leaves_nothing file tables image ≡ true → CountsUsed tables image
+nothing-counts file tables image all = λ c below used.
+    counted-used tables image c used (counted-each tables image 0 max_file_length c (omega arith) (omega (arith, below)) (and_parts _ _ all).0)
+
+-- and uses none past the end of the file
+pub nothing-past : (file : ℕ) (tables : ImageTables) (image : Image) → leaves_nothing file tables image ≡ true → EndsWithin file tables image
+nothing-past file tables image all =
+    let none = (and_parts (are_counted tables.header tables.reftable (image_findings tables image)) (length (past_findings file tables image) == 0) all).1 in
+    unused-past file tables image (grind (arith, nat_tests, none))
 
 -- the L1 table of an image that can be checked is the one in the image
 pub checked-l1 : (header : HeaderRecord) (tables : ImageTables) (image : Image) → checked_tables header image ≡ Ok tables → tables.l1 ≡ l1_in header image
@@ -197,15 +254,15 @@ checked-l1 header tables image is = by_l1 (loaded_l1_table header image) refl
 
 -- the tables that a reader has, where none of the findings that it came to was refused
 pub repairable-found : {T : Type 0} (header : HeaderRecord) (reader : FindingsState) (l1 reftable : List ℕ) (value : T) (old now : StorageState)
-    → IsClusterBits header.v2.cluster_bits → header.base.refcount_order ≤ 6 → reader.header ≡ header → reader.position ≡ 0
+    → IsClusterBits header.v2.cluster_bits → header.base.refcount_order ≤ 6 → reader.header ≡ header
     → l1 ≡ reader.l1 → reftable ≡ reader.counters.reftable → blocks_fault reader.header reader.counters.reftable ≡ None → IsBytes old.byte_at
     → OnlyReads (Ok value) old now → OnImage old (λ bytes. IsFindingsOf bytes reader)
-    → OnImage now (λ bytes. unless_refused (findings_refusal reader.header reader.counters.reftable (findings_left reader bytes)) (Ok (tt {0})) ≡ Ok (tt {0}))
+    → OnImage now (λ bytes. unless_refused (findings_refusal reader.header reader.counters.reftable (image_findings (tables_of reader) bytes)) (Ok (tt {0})) ≡ Ok (tt {0}))
     → OnImage old (IsRepairable (image_tables header l1 reftable))
-repairable-found header reader l1 reftable value old now bits orders is begun l1_is reftable_is placed bytes reads kept fine = λ told.
+repairable-found header reader l1 reftable value old now bits orders is l1_is reftable_is placed bytes reads kept fine = λ told.
     let fine_now = fine (rw reads.device.tells told) in
     let fine_old = rw reads.bytes at fine_now in
-    let none = rw (all-left reader old.byte_at begun) at (not-refused _ _ _ fine_old) in
+    let none = not-refused _ _ _ fine_old in
     rw (l1_is, reftable_is, ← is) (repairable-unless_refused (tables_of reader) old.byte_at (rw (← is) at bits) (rw (← is) at orders) placed (kept told).loads bytes none)
 
 only-reads : {A B T : Type 0} (value : A) (fault : Fault) (a b c : StorageState) → OnlyReads (Ok value) a b → OnlyReads {T = B} (Err fault) b c → OnlyReads {T = T} (Err fault) a c
@@ -213,20 +270,19 @@ only-reads value fault a b c one other = grind (arith, nat_tests, one, other)
 
 -- a fault after a reader's begin is that of the tables of an image that can't be repaired
 pub refused-reads : {A T : Type 0} (view : T → ImageTables) (header : HeaderRecord) (reader : FindingsState) (value : A) (fault : Fault) (old now later : StorageState)
-    → reader.header ≡ header → reader.position ≡ 0 → OnImage old (λ bytes. checked_tables header bytes ≡ Ok (tables_of reader)) → OnlyReads (Ok value) old now
-    → Reads {T = Bool} (λ _. tt {0}) (Err fault) (λ bytes. unless_refused (findings_refusal reader.header reader.counters.reftable (findings_left reader bytes)) (Ok (tt {0})))
+    → reader.header ≡ header → OnImage old (λ bytes. checked_tables header bytes ≡ Ok (tables_of reader)) → OnlyReads (Ok value) old now
+    → Reads {T = FindingsState × Bool} (λ _. tt {0}) (Err fault) (λ bytes. unless_refused (findings_refusal reader.header reader.counters.reftable (image_findings (tables_of reader) bytes)) (Ok (tt {0})))
     IsFindingRefusal now later
     → Reads {T = T} view (Err fault) (unrefused_tables header) (IsRepairRefusal header) old later
-refused-reads view header reader value fault old now later is begun checked one reads = record {
+refused-reads view header reader value fault old now later is checked one reads = record {
   exact = λ told. elim (reads.exact (rw one.device.tells told)) [
     | inl failed ↦ inl failed
     | inr rest ↦ elim rest [
       | inl memory ↦ inr (inl memory)
       | inr refused ↦
           let refused_old = rw one.bytes at refused in
-          let all = rw (all-left reader old.byte_at begun) at refused_old in
           let here : checked_tables reader.header old.byte_at ≡ Ok (tables_of reader) = rw (← is) at (checked told) in
-          let whole : unrefused_tables reader.header old.byte_at ≡ Err fault = rw here (still-refused _ _ _ _ all) in
+          let whole : unrefused_tables reader.header old.byte_at ≡ Err fault = rw here (still-refused _ _ _ _ refused_old) in
           inr (inr (rw is at whole))
     ]
   ];

@@ -1,5 +1,5 @@
 -- Which findings does a repair refuse, and what are the tables of an image that none of them is refused of?
-use Rattle.std.specs.Prelude.{◌≡◌, ◌⊎◌, ℕ, Bool, true, ◌&&◌, nat_lt, if◌then◌else◌, is_some, List, [], ◌∷◌, Option, Some, None, option_map, Result, Ok}
+use Rattle.std.specs.Prelude.{◌≡◌, ◌⊎◌, ℕ, Bool, true, ◌&&◌, ◌==◌, nat_lt, if◌then◌else◌, is_some, List, [], ◌∷◌, length, Option, Some, None, option_map, Result, Ok}
 use Rattle.std.specs.Option.{option_or}
 use Rattle.qcow2_base.specs.Storage.{Image}
 use Rattle.qcow2_base.specs.declared.fault.Fault.{Fault}
@@ -10,7 +10,7 @@ use Rattle.qcow2_metadata.specs.Results.{and_then, unless_refused}
 use Rattle.qcow2_metadata.specs.Table.{IsEntryFault}
 use Rattle.qcow2_check.specs.Counters.{block_of_cluster}
 use Rattle.qcow2_check.specs.FileEnd.{tables_in_file}
-use Rattle.qcow2_check.specs.Findings.{IsCheckFault, checked_tables, image_findings}
+use Rattle.qcow2_check.specs.Findings.{IsCheckFault, checked_tables, image_findings, past_findings}
 use Rattle.qcow2_check.specs.L1Length.{short_l1_refusal}
 use Rattle.qcow2_check.specs.Uses.{ImageTables}
 use Rattle.qcow2_check.specs.declared.findings.Finding.{Finding}
@@ -35,9 +35,11 @@ are_counted header reftable [] = true
 are_counted header reftable (finding ∷ findings) =
     is_some (block_of_cluster header reftable finding.cluster.0) && are_counted header reftable findings
 
--- whether a repair leaves nothing wrong in an image with these tables
-abbrev pub leaves_nothing : ImageTables → Image → Bool
-leaves_nothing tables image = are_counted tables.header tables.reftable (image_findings tables image)
+-- whether a repair leaves nothing wrong in an image with these tables, in a file of that many clusters: blocks count all that is
+-- found, and no cluster past the file's end is used
+abbrev pub leaves_nothing : ℕ → ImageTables → Image → Bool
+leaves_nothing file tables image = are_counted tables.header tables.reftable (image_findings tables image)
+    && (length (past_findings file tables image) == 0)
 
 -- why an image with this header can't be repaired, whatever its tables say: a part that isn't read here, or an L1 table that is
 -- too short for the disk

@@ -12,6 +12,7 @@ use Rattle.qcow2_metadata.specs.Refblock.{greatest_counter}
 use Rattle.qcow2_metadata.specs.Results.{IsFromOutside}
 use Rattle.qcow2_metadata.specs.Table.{IsContentFault, IsTableFault}
 use Rattle.qcow2_check.specs.Counters.{block_of_cluster, blocks_fault}
+use Rattle.qcow2_check.specs.FileEnd.{file_clusters}
 use Rattle.qcow2_check.specs.Findings.{is_shared}
 use Rattle.qcow2_check.specs.NamedTables.{l1_cluster, l1_layout}
 use Rattle.qcow2_check.specs.Uses.{ImageTables, all_load, image_tables, image_uses, uses_of}
@@ -106,39 +107,39 @@ abbrev pub EndsMarks : Bool → HeaderRecord → HeaderRecord → Image → Imag
 EndsMarks true header left old new = ClearsMarks header left old new
 EndsMarks false header left old new = (left ≡ header) × (new ≡ old)
 
--- a repair of an image with this header that was done, in which the header became this
-abbrev pub IsRepaired : HeaderRecord → HeaderRecord → Image → Image → Type 0
-IsRepaired header left old new = (written : HeaderRecord) × (tables : ImageTables) × (passed : Image)
-    × HasPassed header written tables old passed × EndsMarks (leaves_nothing tables old) written left passed new
+-- a repair of an image with this header, in a file of that many clusters, that was done, and in which the header became this
+abbrev pub IsRepaired : ℕ → HeaderRecord → HeaderRecord → Image → Image → Type 0
+IsRepaired file header left old new = (written : HeaderRecord) × (tables : ImageTables) × (passed : Image)
+    × HasPassed header written tables old passed × EndsMarks (leaves_nothing file tables old) written left passed new
 
--- a repair made its passes, the header became this, and a flag says whether it left nothing wrong
-abbrev pub TellsPassed : HeaderRecord → HeaderRecord → Bool → Image → Image → Type 0
-TellsPassed header written told old new = (tables : ImageTables)
-    × HasPassed header written tables old new × (told ≡ leaves_nothing tables old)
+-- a repair made its passes, and tells which header that left, and whether it left nothing wrong
+abbrev pub TellsPassed : ℕ → HeaderRecord → HeaderRecord × Bool → Image → Image → Type 0
+TellsPassed file header told old new = (tables : ImageTables)
+    × HasPassed header told.0 tables old new × (told.1 ≡ leaves_nothing file tables old)
 
 -- the write of the header's text was torn, of an image that can be repaired
 abbrev pub TearsText : HeaderRecord → Image → Image → Type 0
 TearsText header old new = IsOk (repairable_tables header old) × SameOutside 0 (length (opened_text true (Ok header))) old new
 
 -- a repair that broke off in this fault: before its passes, in one of them, or in the write of its marks, which was torn
-abbrev pub BreaksOffAt : HeaderRecord → Fault → Image → Image → Type 0
-BreaksOffAt header fault old new = TearsAtMost fault (TearsText header) old new
+abbrev pub BreaksOffAt : ℕ → HeaderRecord → Fault → Image → Image → Type 0
+BreaksOffAt file header fault old new = TearsAtMost fault (TearsText header) old new
     ⊎ ((written : HeaderRecord) × (tables : ImageTables) × (mid : Image) × (repairable_tables header old ≡ Ok tables)
     × MakesWritable header written old mid × BreaksOffRepair written tables.reftable fault mid new)
     ⊎ ((written : HeaderRecord) × (tables : ImageTables) × (passed : Image) × HasPassed header written tables old passed
-    × (leaves_nothing tables old ≡ true) × TearsAtMost fault (SameOutside 72 8) passed new)
+    × (leaves_nothing file tables old ≡ true) × TearsAtMost fault (SameOutside 72 8) passed new)
 
 -- the faults of its passes, whatever is known of the image's bytes
 abbrev pub IsPassFault : HeaderRecord → Fault → Type 0
 IsPassFault header fault =
     IsTableFault (l1_layout header) (l1_cluster header) fault ⊎ (fault ≡ CounterRange) ⊎ IsFromOutside fault
 
--- a repair of an image with this header ended in this answer, with all done that a value says. After a fault that isn't from
--- outside no byte changed: the image can't be repaired, or its header has no room
-pub record EndsRepair {T : Type 0} (header : HeaderRecord) (IsDone : T → Image → Image → Type 0) (answer : Result T Fault) (old new : StorageState) : Type 0 where
+-- a repair of an image with this header ended in this answer, with all done that a value says of a file with that number of
+-- clusters. After a fault that isn't from outside no byte changed: the image can't be repaired, or its header has no room
+pub record EndsRepair {T : Type 0} (header : HeaderRecord) (IsDone : ℕ → T → Image → Image → Type 0) (answer : Result T Fault) (old new : StorageState) : Type 0 where
   pub repairs : OnImages old new (λ before after. MatchResult answer
-      (λ value. IsDone value before after)
-      (λ fault. BreaksOffAt header fault before after))
+      (λ value. IsDone (file_clusters old.len header) value before after)
+      (λ fault. BreaksOffAt (file_clusters old.len header) header fault before after))
   pub refused : IfErr answer (λ fault. OnImages old new (λ before after. IsFromOutside fault ⊎ ((after ≡ before)
       × ((repairable_tables header before ≡ Err fault) ⊎ (header_after_load true (Ok header) ≡ Err fault)
       ⊎ (repair_within header old.len before ≡ Err fault)))))
@@ -147,4 +148,4 @@ pub record EndsRepair {T : Type 0} (header : HeaderRecord) (IsDone : T → Image
 
 -- the same of a whole repair, with the marks
 abbrev pub RepairsImage : HeaderRecord → Result HeaderRecord Fault → StorageState → StorageState → Type 0
-RepairsImage header = EndsRepair header (IsRepaired header)
+RepairsImage header = EndsRepair header (λ file. IsRepaired file header)

@@ -10,7 +10,7 @@ ghost use Rattle.qcow2_base.specs.declared.types.HostCluster.{HostCluster};
 ghost use Rattle.qcow2_metadata.specs.Header.{HeaderRecord, IsValidHeader};
 ghost use Rattle.qcow2_summary.specs.Consistency.{IsConsistent};
 ghost use Rattle.qcow2_check.specs.Counters.{counter_of};
-ghost use Rattle.qcow2_check.specs.Findings.{checked_tables};
+ghost use Rattle.qcow2_check.specs.Findings.{EndsWithin, checked_tables};
 ghost use Rattle.qcow2_check.specs.Uses.{ImageTables, image_uses};
 ghost use Rattle.qcow2_repair.specs.Repair.{BreaksOffRepair, EndsMarks, HasPassed, IsRepairable, MakesWritable, Repairs, tables_in};
 ghost use Rattle.qcow2_repair.specs.Left.{CountsUsed, HasTrueFlags, IsHighEnough, IsRightWhereCounted, LeavesWhole, MakesNoneTooLow, MakesNoneTooLowBeside};
@@ -70,12 +70,14 @@ pub fn a_repaired_image_can_be_checked()
         checked_tables left new ≡ Ok (tables_in left tables.reftable new) }
 {}
 
-/// A repair clears the marks `dirty` and `corrupt` only of a consistent image. It does so where it leaves
-/// nothing wrong, and then the image has no findings and no wrong copied flags after its passes.
+/// A repair clears the marks `dirty` and `corrupt` only of a consistent image that ends within its file. It
+/// does so where it leaves nothing wrong, and then the image has no findings and no wrong copied flags after
+/// its passes, and refers to no cluster past the end of a file of that many clusters.
 pub fn marks_are_cleared_only_of_a_consistent_image()
-    ensures { (header written : HeaderRecord) (tables : ImageTables) (old passed : Image) →
+    ensures { (file : ℕ) (header written : HeaderRecord) (tables : ImageTables) (old passed : Image) →
         IsValidHeader header → IsBytes old → HasPassed header written tables old passed →
-        leaves_nothing tables old ≡ true → IsConsistent (tables_in written tables.reftable passed) passed }
+        leaves_nothing file tables old ≡ true → let left = tables_in written tables.reftable passed in
+        IsConsistent left passed × EndsWithin file left passed }
 {}
 
 /// No step of a repair makes a refcount lower than its number of references: one that was at least that

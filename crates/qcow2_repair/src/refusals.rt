@@ -7,7 +7,8 @@ ghost use Rattle.qcow2_base.specs.declared.fault.Fault.TheVariants.{CounterRange
 ghost use Rattle.qcow2_metadata.specs.Placed.{place_fault};
 ghost use Rattle.qcow2_metadata.specs.Refblock.{greatest_counter};
 ghost use Rattle.qcow2_metadata.specs.Results.{Reads, unless_refused};
-ghost use Rattle.qcow2_check.specs.Findings.{CountsAll, IsFindingsOf, MovesFindings, findings_left};
+ghost use Rattle.qcow2_check.specs.FileEnd.{file_clusters};
+ghost use Rattle.qcow2_check.specs.Findings.{CountsAll, IsBegun, IsFindingsOf, MovesFindings, findings_left, image_findings, tables_of};
 ghost use Rattle.qcow2_check.specs.ImageTables.{IsPlacedReftable};
 ghost use Rattle.qcow2_check.specs.NamedTables.{l1_cluster, l1_layout};
 ghost use Rattle.qcow2_check.specs.Uses.{image_tables};
@@ -69,9 +70,35 @@ fn check_findings<S: Storage>(findings: &mut Findings<'_>, image: &mut S) -> Res
     Ok(leaves_nothing)
 }
 
+// Refuses the first of a reader's findings that can't be made right. Returns the reader, which then seeks
+// clusters past the end of the image's file, and whether a repair leaves nothing wrong: refcount blocks count
+// the clusters of all findings, and no cluster past the end has references.
+fn check_all<'a, S: Device>(
+    findings: Findings<'a>,
+    image: &mut S,
+) -> Result<(Findings<'a>, bool), Fault>
+    requires begun { IsBegun findings }
+    requires reader { OnImage (S.state image.old) (λ bytes. IsFindingsOf bytes findings) }
+    ensures reads { let reader = findings.entry in
+        Reads (λ _. tt {0}) result (λ bytes. unless_refused
+        (findings_refusal reader.header reader.counters.reftable (image_findings (tables_of reader) bytes))
+        (Ok (tt {0}))) IsFindingRefusal (S.state image.old) (S.state image.new) }
+    ensures nothing { IfOk result (λ found. OnImage (S.state image.old) (λ bytes.
+        found.1 ≡ leaves_nothing (file_clusters (S.state image.old).len findings.entry.header)
+        (tables_of findings.entry) bytes)) }
+    ensures reader { IfOk result (λ found. (tables_of found.0 ≡ tables_of findings.entry)
+        × OnImage (S.state image.old) (λ bytes. IsFindingsOf bytes found.0)) }
+{
+    let mut findings = findings;
+    let are_counted = check_findings(&mut findings, image)?;
+    let mut past = findings.into_past_end(image)?;
+    let ends_within = past.next(image)?.is_none();
+    Ok((past, are_counted && ends_within))
+}
+
 // Loads the L1 table and the refcount table of an image whose findings aren't refused, with the last counted
 // references, and says whether a repair leaves nothing wrong. Doesn't test whether the L1 table is too short.
-fn unrefused_tables<S: Storage>(
+fn unrefused_tables<S: Device>(
     alloc: Global,
     image: &mut S,
     header: &Header,
@@ -85,12 +112,13 @@ fn unrefused_tables<S: Storage>(
         × (place_fault (l1_layout header.now) (l1_cluster header.now) ≡ None)) }
     ensures counted { IfOk result (λ found. OnImage (S.state image.old) (λ bytes.
         let tables = image_tables header.now found.0.numbers found.1.numbers in
-        IfSome found.2 (CountsAll tables bytes) × (found.3 ≡ leaves_nothing tables bytes))) }
+        IfSome found.2 (CountsAll tables bytes) × (found.3
+        ≡ leaves_nothing (file_clusters (S.state image.old).len header.now) tables bytes))) }
 {
     prove!(header.cluster_bits() <= 21);
     prove!(header.refcount_order() <= 6);
-    let mut findings = Findings::new(alloc, image, header)?;
-    let leaves_nothing = check_findings(&mut findings, image)?;
+    let reader = Findings::new(alloc, image, header)?;
+    let (findings, leaves_nothing) = check_all(reader, image)?;
     let (l1_table, reftable, tally) = findings.into_parts();
     Ok((l1_table, reftable, tally, leaves_nothing))
 }
@@ -121,12 +149,12 @@ pub(crate) fn refuse_past_end<S: Device>(
 
 /// Loads the L1 table and the refcount table of an image that can be repaired, with the last counted
 /// references if any are held, and says whether a repair leaves nothing wrong: refcount blocks count each
-/// cluster at which something is.
+/// cluster at which something is, and no cluster past the end of the image's file has references.
 ///
 /// Returns the fault of `refuse_unrepairable` or of `Findings::new`, or that of the first cluster that can't
 /// be repaired: 38 if its references exclude each other, 30 if its refcount can't hold their number. Changes
 /// no byte.
-pub(crate) fn repairable_tables<S: Storage>(
+pub(crate) fn repairable_tables<S: Device>(
     alloc: Global,
     image: &mut S,
     header: &Header,
@@ -140,7 +168,8 @@ pub(crate) fn repairable_tables<S: Storage>(
         × (place_fault (l1_layout header.now) (l1_cluster header.now) ≡ None)) }
     ensures counted { IfOk result (λ found. OnImage (S.state image.old) (λ bytes.
         let tables = image_tables header.now found.0.numbers found.1.numbers in
-        IfSome found.2 (CountsAll tables bytes) × (found.3 ≡ leaves_nothing tables bytes))) }
+        IfSome found.2 (CountsAll tables bytes) × (found.3
+        ≡ leaves_nothing (file_clusters (S.state image.old).len header.now) tables bytes))) }
 {
     refuse_unrepairable(header)?;
     unrefused_tables(alloc, image, header)

@@ -32,8 +32,9 @@ use std::alloc::Global;
 /// `Header::into_writable` does, and then makes four passes: it clears the copied flags of clusters that
 /// don't have exactly one reference, raises refcounts, lowers refcounts, and sets the flags of clusters that
 /// have exactly one. Last it clears the marks `dirty` and `corrupt`, as `Header::clear_marks` does, if the
-/// header has any and nothing stays wrong: refcount blocks count each cluster at which something was wrong.
-/// `Device::sync` puts each step on the device before the next writes anything. Nothing else changes.
+/// header has any and nothing stays wrong: refcount blocks count each cluster at which something was wrong,
+/// and no cluster that begins past the end of the image's file has references. `Device::sync` puts each step
+/// on the device before the next writes anything. Nothing else changes.
 ///
 /// Returns the fault of `refuse_unrepairable`, of `refuse_tables_past_end` or of `Findings::new`, or that of
 /// the first cluster that can't be repaired: 38 if its references exclude each other, 30 if its refcount
@@ -71,7 +72,7 @@ fn repair_marked<S: Device>(
     image: &mut S,
     header: Header,
 ) -> Result<(Header, bool), Fault>
-    ensures { EndsRepair header (λ done. TellsPassed header done.0 done.1) result
+    ensures { EndsRepair header (λ file. TellsPassed file header) result
         (S.state image.old) (S.state image.new) }
 {
     let (mut l1_table, reftable, tally, leaves_nothing) = repairable_tables(alloc, image, &header)?;

@@ -4,12 +4,13 @@ use Rattle.std.specs.Result.{IfErr, IfOk, IsErrOf}
 use Rattle.std.specs.Io.KnownBytes.{Appends}
 use Rattle.std.proofs.KnownBytes.{Appends-nil, Appends-trans}
 use Rattle.std.proofs.lemmas.Grind.{flat_map-append}
-use Rattle.qcow2_base.specs.Storage.{Image, IsBytes, OnImage, ReadsFor, StorageState}
+use Rattle.qcow2_base.specs.Storage.{Image, IsBytes, OnImage, OnlyReads, ReadsFor, StorageState}
 use Rattle.qcow2_base.specs.declared.fault.Fault.{Fault}
 use Rattle.qcow2_base.specs.declared.fault.Fault.TheVariants.{NoMemory, Storage}
 use Rattle.qcow2_check.proofs.TotalsLemmas.{items-more, known-before}
-use Rattle.qcow2_check.specs.Findings.{FindingsState, checked_tables, image_findings, tables_of}
-use Rattle.qcow2_check.specs.Totals.{finding_totals, totals_on, verdict_in, with_flags}
+use Rattle.qcow2_check.specs.FileEnd.{file_clusters}
+use Rattle.qcow2_check.specs.Findings.{FindingsState, IsBegun, checked_tables, findings_left, image_findings, past_findings, tables_of}
+use Rattle.qcow2_check.specs.Totals.{verdict_in, with_flags}
 use Rattle.qcow2_check.specs.Uses.{ImageTables}
 use Rattle.qcow2_check.specs.declared.flags.WrongFlag.{WrongFlag}
 use Rattle.qcow2_repair.proofs.CheckableLemmas.{checkable-repaired}
@@ -86,96 +87,122 @@ text-lines (Err fault) text f contents old new a b means prints =
 
 -- a print of lines that are others
 pub lines-as : {A O : Type 0} (answer : Result A Fault) (f g : Image → List ℕ) (contents : O → OutputBytes) (old new : StorageState) (a b : O)
-    → f old.byte_at ≡ g old.byte_at → PrintsLines (run_between contents answer old new a b) f → PrintsLines (run_between contents answer old new a b) g
-lines-as (Ok done) f g contents old new a b same prints = record { all = λ told. subst (λ bytes. Appends (contents a) (contents b) bytes) same (prints.all told); part = tt }
+    → OnImage old (λ bytes. f bytes ≡ g bytes) → PrintsLines (run_between contents answer old new a b) f → PrintsLines (run_between contents answer old new a b) g
+lines-as (Ok done) f g contents old new a b same prints = record { all = λ told. subst (λ bytes. Appends (contents a) (contents b) bytes) (same told) (prints.all told); part = tt }
 lines-as (Err fault) f g contents old new a b same prints = record {
   all = tt;
-  part = λ told. let part = prints.part told in (part.0, subst (λ bytes. AppendsPart (contents a) (contents b) bytes) same part.1);
+  part = λ told. let part = prints.part told in (part.0, subst (λ bytes. AppendsPart (contents a) (contents b) bytes) (same told) part.1);
 }
 
--- the findings and the runs that a reader of runs comes to from the image's begin
-pub all-begin : (reader : RunsState) (findings : FindingsState) (image : Image) → reader ≡ record { findings = findings; ahead = None } → findings.position ≡ 0
-    → all_left reader image ≡ image_findings (tables_of findings) image
-all-begin reader findings image is begun = rw (is, begun) refl
-
-pub runs-begin : (reader : RunsState) (findings : FindingsState) (image : Image) → reader ≡ record { findings = findings; ahead = None } → findings.position ≡ 0
-    → runs_left reader image ≡ runs_of (image_findings (tables_of findings) image)
-runs-begin reader findings image is begun = ap runs_of (all-begin reader findings image is begun)
-
--- what the totals of findings and then of flags mean, after the reads
-pub totals-mean : (first last : Totals) (tables : ImageTables) (flags : Image → List WrongFlag) (old mid new : StorageState)
-    → mid.tells ≡ old.tells → mid.byte_at ≡ old.byte_at → new.tells ≡ mid.tells → new.byte_at ≡ mid.byte_at
-    → OnImage old (λ bytes. first ≡ finding_totals (image_findings tables bytes)) → OnImage mid (λ bytes. last ≡ with_flags first (flags bytes))
-    → OnImage new (λ bytes. last ≡ with_flags (finding_totals (image_findings tables bytes)) (flags bytes))
-totals-mean first last tables flags old mid new tells bytes later_tells later_bytes one other = λ told.
-    let known : IsTrue old.tells = rw (later_tells, tells) at told in
-    let both : last ≡ with_flags (finding_totals (image_findings tables old.byte_at)) (flags old.byte_at) =
-    known-before (λ image. last ≡ with_flags first (flags image)) old mid tells bytes other known
-    ∙ ap (λ t. with_flags t (flags old.byte_at)) (one known) in
-    subst (λ image. last ≡ with_flags (finding_totals (image_findings tables image)) (flags image)) (sym (later_bytes ∙ bytes)) both
-
--- the verdict on totals is that on what they mean
-pub verdict-means : (answer : Result Verdict Fault) (header other : HeaderRecord) (last : Totals) (tables : ImageTables) (old new : StorageState)
-    → other ≡ header → new.tells ≡ old.tells → new.byte_at ≡ old.byte_at
-    → OnImage new (λ bytes. last ≡ totals_on tables bytes) → IfOk answer (λ verdict. verdict ≡ verdict_in header last)
-    → IfOk answer (λ verdict. OnImage old (λ bytes. verdict ≡ verdict_in other (totals_on tables bytes)))
-verdict-means (Ok verdict) header other last tables old new same tells bytes means is = λ told.
-    is ∙ ap (λ h. verdict_in h last) (sym same)
-    ∙ ap (verdict_in other) (means (tells ∙ told) ∙ ap (λ image. totals_on tables image) bytes)
-verdict-means (Err fault) header other last tables old new same tells bytes means is = tt
-
--- reads and prints that returned a value, and then others
-pub reads_for-twice : {A told : Type 0} (value : A) (a b c : StorageState) → ReadsFor (IsErrOf {T = A} (Ok value) Storage) a b → ReadsFor told b c → ReadsFor told a c
-reads_for-twice value a b c one other = grind (arith, nat_tests, one, other)
-
--- reads for which a fault is returned, whatever else could have been
-pub reads_for-fault : {A B : Type 0} (fault : Fault) (a b : StorageState) → ReadsFor (IsErrOf {T = A} (Err fault) Storage) a b → ReadsFor (IsErrOf {T = B} (Err fault) Storage) a b
-reads_for-fault fault a b reads = grind (arith, nat_tests, reads)
+-- a print after which something was read
+pub lines-read : {A O : Type 0} (answer : Result A Fault) (f : Image → List ℕ) (contents : O → OutputBytes) (old mid new : StorageState) (a b : O)
+    → PrintsLines (run_between contents answer old mid a b) f → PrintsLines (run_between contents answer old new a b) f
+lines-read answer f contents old mid new a b prints = record { all = prints.all; part = prints.part }
 
 -- nothing is a beginning of any bytes
 nothing-printed : (a : OutputBytes) (bytes : List ℕ) → AppendsPart a a bytes
 nothing-printed None bytes = tt
 nothing-printed (Some xs) bytes = (0, sym (append-nil xs))
 
+-- a fault of the storage before any line
+pub no-lines : {A O : Type 0} (fault : Fault) (f : Image → List ℕ) (contents : O → OutputBytes) (old new : StorageState) (a : O) → fault ≡ Storage
+    → PrintsLines {A = A} (run_between contents (Err fault) old new a a) f
+no-lines fault f contents old new a failed = record { all = tt; part = λ told. (inr failed, nothing-printed (contents a) (f old.byte_at)) }
+
+-- the findings and the runs that a reader of runs comes to from the image's begin
+pub all-begin : (reader : RunsState) (findings : FindingsState) (image : Image) → reader ≡ record { findings = findings; ahead = None } → IsBegun findings
+    → all_left reader image ≡ image_findings (tables_of findings) image
+all-begin reader findings image is begun = rw (is, begun.0, begun.1) refl
+
+pub runs-begin : (reader : RunsState) (findings : FindingsState) (image : Image) → reader ≡ record { findings = findings; ahead = None } → IsBegun findings
+    → runs_left reader image ≡ runs_of (image_findings (tables_of findings) image)
+runs-begin reader findings image is begun = ap runs_of (all-begin reader findings image is begun)
+
+-- those that it comes to past the end of a file
+pub past-begins : (reader : RunsState) (past : FindingsState) (tables others : ImageTables) (file clusters : ℕ) (old now : StorageState)
+    → reader ≡ record { findings = past; ahead = None } → now.tells ≡ old.tells → now.byte_at ≡ old.byte_at
+    → OnImage now (λ bytes. findings_left past bytes ≡ past_findings clusters others bytes) → others ≡ tables → clusters ≡ file
+    → OnImage old (λ bytes. all_left reader bytes ≡ past_findings file tables bytes)
+past-begins reader past tables others file clusters old now is tells bytes left same end = λ told.
+    rw (is, ← same, ← end) (known-before (λ image. findings_left past image ≡ past_findings clusters others image) old now tells bytes left told)
+
+-- what the totals of clusters and then of flags mean, after the reads
+pub totals-mean : (first last : Totals) (meant : Image → Totals) (flags : Image → List WrongFlag) (old mid new : StorageState)
+    → mid.tells ≡ old.tells → mid.byte_at ≡ old.byte_at → new.tells ≡ mid.tells → new.byte_at ≡ mid.byte_at
+    → OnImage old (λ bytes. first ≡ meant bytes) → OnImage mid (λ bytes. last ≡ with_flags first (flags bytes))
+    → OnImage new (λ bytes. last ≡ with_flags (meant bytes) (flags bytes))
+totals-mean first last meant flags old mid new tells bytes later_tells later_bytes one other = λ told.
+    let known : IsTrue old.tells = rw (later_tells, tells) at told in
+    let both : last ≡ with_flags (meant old.byte_at) (flags old.byte_at) =
+    known-before (λ image. last ≡ with_flags first (flags image)) old mid tells bytes other known
+    ∙ ap (λ t. with_flags t (flags old.byte_at)) (one known) in
+    subst (λ image. last ≡ with_flags (meant image) (flags image)) (sym (later_bytes ∙ bytes)) both
+
+-- the verdict on totals is that on what they mean
+pub verdict-means : (answer : Result Verdict Fault) (header other : HeaderRecord) (last : Totals) (meant : Image → Totals) (old new : StorageState)
+    → other ≡ header → new.tells ≡ old.tells → new.byte_at ≡ old.byte_at
+    → OnImage new (λ bytes. last ≡ meant bytes) → IfOk answer (λ verdict. verdict ≡ verdict_in header last)
+    → IfOk answer (λ verdict. OnImage old (λ bytes. verdict ≡ verdict_in other (meant bytes)))
+verdict-means (Ok verdict) header other last meant old new same tells bytes means is = λ told.
+    is ∙ ap (λ h. verdict_in h last) (sym same)
+    ∙ ap (verdict_in other) (means (tells ∙ told) ∙ ap meant bytes)
+verdict-means (Err fault) header other last meant old new same tells bytes means is = tt
+
+-- reads and prints that returned a value, and then others
+pub reads_for-twice : {A told : Type 0} (value : A) (a b c : StorageState) → ReadsFor (IsErrOf {T = A} (Ok value) Storage) a b → ReadsFor told b c → ReadsFor told a c
+reads_for-twice value a b c one other = grind (arith, nat_tests, one, other)
+
+-- reads that returned a value, whatever else could have been
+pub reads_for-any : {A told : Type 0} (value : A) (a b : StorageState) → ReadsFor (IsErrOf (Ok value) Storage) a b → ReadsFor told a b
+reads_for-any value a b reads = grind (arith, nat_tests, reads)
+
+-- a call that only reads
+pub reads_only : {A : Type 0} (answer : Result A Fault) (a b : StorageState) → OnlyReads answer a b → ReadsFor (IsErrOf answer Storage) a b
+reads_only answer a b reads = grind (arith, nat_tests, reads)
+
+-- reads for which a fault is returned, whatever else could have been
+pub reads_for-fault : {A B : Type 0} (fault : Fault) (a b : StorageState) → ReadsFor (IsErrOf {T = A} (Err fault) Storage) a b → ReadsFor (IsErrOf {T = B} (Err fault) Storage) a b
+reads_for-fault fault a b reads = grind (arith, nat_tests, reads)
+
 -- an image that can't be checked: nothing is printed
-pub report-refused : {O : Type 0} (fault : Fault) (header : HeaderRecord) (contents : O → OutputBytes) (old new : StorageState) (a : O)
+pub report-refused : {O : Type 0} (fault : Fault) (header : HeaderRecord) (len : ℕ) (contents : O → OutputBytes) (old new : StorageState) (a : O)
     → OnImage old (λ bytes. (fault ≡ Storage) ⊎ (fault ≡ NoMemory) ⊎ (checked_tables header bytes ≡ Err fault))
-    → PrintsReport (run_between contents (Err fault) old new a a) (checked_report header)
-report-refused fault header contents old new a why = record { lines = tt; refused = λ told. by_cause (why told) }
+    → PrintsReport (run_between contents (Err fault) old new a a) (checked_report header len)
+report-refused fault header len contents old new a why = record { lines = tt; refused = λ told. by_cause (why told) }
   where
     by_cause : (fault ≡ Storage) ⊎ (fault ≡ NoMemory) ⊎ (checked_tables header old.byte_at ≡ Err fault)
-        → ((checked_report header old.byte_at ≡ Err fault) × Appends (contents a) (contents a) [])
-        ⊎ (IsFromOutside fault × AppendsPart (contents a) (contents a) (lines_of (checked_report header old.byte_at)))
-    by_cause (inl failed) = inr (inr failed, nothing-printed (contents a) (lines_of (checked_report header old.byte_at)))
-    by_cause (inr (inl full)) = inr (inl full, nothing-printed (contents a) (lines_of (checked_report header old.byte_at)))
-    by_cause (inr (inr refused)) = inl (ap (result_map (λ tables. report_on tables old.byte_at)) refused, Appends-nil (contents a))
+        → ((checked_report header len old.byte_at ≡ Err fault) × Appends (contents a) (contents a) [])
+        ⊎ (IsFromOutside fault × AppendsPart (contents a) (contents a) (lines_of (checked_report header len old.byte_at)))
+    by_cause (inl failed) = inr (inr failed, nothing-printed (contents a) (lines_of (checked_report header len old.byte_at)))
+    by_cause (inr (inl full)) = inr (inl full, nothing-printed (contents a) (lines_of (checked_report header len old.byte_at)))
+    by_cause (inr (inr refused)) = inl (ap (result_map (λ tables. report_on (file_clusters len header) tables old.byte_at)) refused, Appends-nil (contents a))
 
 -- a report on the tables of an image with this header, after they were read
-pub report-found : {O : Type 0} (answer : Result Verdict Fault) (header : HeaderRecord) (tables : ImageTables) (contents : O → OutputBytes) (old mid new : StorageState) (a b : O)
+pub report-found : {O : Type 0} (answer : Result Verdict Fault) (header : HeaderRecord) (len file : ℕ) (tables : ImageTables) (contents : O → OutputBytes) (old mid new : StorageState) (a b : O)
     → mid.tells ≡ old.tells → mid.byte_at ≡ old.byte_at → OnImage old (λ bytes. checked_tables header bytes ≡ Ok tables)
-    → PrintsLines (run_between contents answer mid new a b) (λ bytes. (report_on tables bytes).lines)
-    → IfOk answer (λ verdict. OnImage mid (λ bytes. verdict ≡ (report_on tables bytes).verdict))
-    → PrintsReport (run_between contents answer old new a b) (checked_report header)
-report-found (Ok verdict) header tables contents old mid new a b tells bytes is prints judged = record {
-  lines = λ told. rw (is told) (
-    sym (known-before (λ image. verdict ≡ (report_on tables image).verdict) old mid tells bytes judged told),
-    known-before (λ image. Appends (contents a) (contents b) (report_on tables image).lines) old mid tells bytes prints.all told,
+    → file ≡ file_clusters len header → PrintsLines (run_between contents answer mid new a b) (λ bytes. (report_on file tables bytes).lines)
+    → IfOk answer (λ verdict. OnImage mid (λ bytes. verdict ≡ (report_on file tables bytes).verdict))
+    → PrintsReport (run_between contents answer old new a b) (checked_report header len)
+report-found (Ok verdict) header len file tables contents old mid new a b tells bytes is end prints judged = record {
+  lines = λ told. rw (is told, ← end) (
+    sym (known-before (λ image. verdict ≡ (report_on file tables image).verdict) old mid tells bytes judged told),
+    known-before (λ image. Appends (contents a) (contents b) (report_on file tables image).lines) old mid tells bytes prints.all told,
   );
   refused = tt;
 }
-report-found (Err fault) header tables contents old mid new a b tells bytes is prints judged = record {
+report-found (Err fault) header len file tables contents old mid new a b tells bytes is end prints judged = record {
   lines = tt;
-  refused = λ told. inr (rw (is told)
-      (known-before (λ image. IsFromOutside fault × AppendsPart (contents a) (contents b) (report_on tables image).lines) old mid tells bytes prints.part told));
+  refused = λ told. inr (rw (is told, ← end)
+      (known-before (λ image. IsFromOutside fault × AppendsPart (contents a) (contents b) (report_on file tables image).lines) old mid tells bytes prints.part told));
 }
 
 -- a repaired image can be checked, so a check of it ends in no fault but one from outside
 pub repaired-outside : {O : Type 0} (header written : HeaderRecord) (answer : Result Verdict Fault) (contents : O → OutputBytes) (old left new : StorageState) (a b : O)
     → IsValidHeader header → IsBytes old.byte_at → RepairsImage header (Ok written) old left
-    → PrintsReport (run_between contents answer left new a b) (checked_report written) → IfErr answer (λ fault. OnImage old (λ _. IsFromOutside fault))
+    → PrintsReport (run_between contents answer left new a b) (checked_report written left.len) → IfErr answer (λ fault. OnImage old (λ _. IsFromOutside fault))
 repaired-outside header written (Ok verdict) contents old left new a b valid bytes repairs prints = tt
 repaired-outside header written (Err fault) contents old left new a b valid bytes repairs prints = λ told.
-    let is : IsRepaired header written old.byte_at left.byte_at = repairs.repairs told in
+    let is : IsRepaired (file_clusters old.len header) header written old.byte_at left.byte_at = repairs.repairs told in
     let found = checkable-repaired _ header is.0 written is.1 old.byte_at is.2 left.byte_at valid bytes is.3 is.4 in
     elim (prints.refused (rw repairs.storage.device.tells told)) [
       | inl meant ↦ absurd (grind (arith, found, meant.0))

@@ -209,14 +209,14 @@ ended-reads false header left reftable old new is ends o = rw (ends.0, ends.1) r
 ended-reads true header left reftable old new is ends o = rw ends.becomes (cleared-reads header left reftable old new is ends o)
 
 -- so a repair keeps what each guest offset reads as, but for its flag
-pub repaired-reads : (header left : HeaderRecord) (old new : Image) → IsValidHeader header → IsBytes old → IsRepaired header left old new → (o : ℕ)
+pub repaired-reads : (file : ℕ) (header left : HeaderRecord) (old new : Image) → IsValidHeader header → IsBytes old → IsRepaired file header left old new → (o : ℕ)
     → ReadSame (mapping_in left o new) (mapping_in header o old)
-repaired-reads header left old new valid bytes (written, tables, passed, (mid, is, makes, repair), ends) o =
+repaired-reads file header left old new valid bytes (written, tables, passed, (mid, is, makes, repair), ends) o =
     let start = repairable-found-written header written tables old mid valid bytes is makes in
     let before : loaded_l1_table header old ≡ Ok (l1_in header old) = (repairable-l1 header tables old is).0 in
     let after : loaded_l1_table left new ≡ Ok (l1_in left new)
     = (checked-parts left new (tables_in left tables.reftable new)
-    (checkable-repaired (leaves_nothing tables old) header written left tables old passed new valid bytes (mid, is, makes, repair) ends)).l1 in
-    rw (before, after) (ended-reads (leaves_nothing tables old) written left tables.reftable passed new
+    (checkable-repaired (leaves_nothing file tables old) header written left tables old passed new valid bytes (mid, is, makes, repair) ends)).l1 in
+    rw (before, after) (ended-reads (leaves_nothing file tables old) written left tables.reftable passed new
     (stages written tables.reftable mid passed repair start).four.is ends o
     ∙ passes-read written tables.reftable mid passed start repair o ∙ written-reads header written tables old mid valid bytes is makes o)

@@ -1,10 +1,10 @@
-use Rattle.std.proofs.Common.{◌≡◌, ℕ, zero, suc, Bool, true, false, ◌+◌, if◌then◌else◌, List, [], ◌∷◌, ◌++◌, cond, refl, sym, ap, ◌∙◌, ◌<◌, append-nil, append_assoc, arith}
+use Rattle.std.proofs.Common.{◌≡◌, ℕ, zero, suc, Bool, true, false, ◌+◌, if◌then◌else◌, List, [], ◌∷◌, ◌++◌, length, cond, refl, sym, ap, ◌∙◌, ◌<◌, append-nil, append_assoc, arith}
 use Rattle.std.proofs.lemmas.Bool.Decides.{nat_tests}
 use Rattle.std.proofs.lemmas.List.Sums.{sum_by-cons, sum_by_push}
 use Rattle.std.specs.List.{sum_by}
 use Rattle.qcow2_metadata.specs.Table.L2Guards.{one_if}
 use Rattle.qcow2_check.specs.Findings.{is_leaked, is_missing}
-use Rattle.qcow2_check.specs.Totals.{finding_totals, with_clusters}
+use Rattle.qcow2_check.specs.Totals.{finding_totals, with_clusters, with_past}
 use Rattle.qcow2_check.specs.declared.findings.Finding.{Finding}
 use Rattle.qcow2_check.specs.declared.totals.Totals.{Totals}
 use Rattle.qcow2_session.specs.Commands.Check.Runs.{goes_on, runs_of, joined_before, single}
@@ -128,6 +128,7 @@ run_totals runs = record {
   leaked = sum_by (clusters_of is_leaked) runs;
   missing = sum_by (clusters_of is_missing) runs;
   shared = sum_by (clusters_of (λ (finding : Finding). finding.shared)) runs;
+  past = 0;
   false_flags = 0;
   late_flags = 0;
 }
@@ -180,3 +181,39 @@ pub totals-all : (findings : List Finding) (printed left : List FindingRun) (tot
     → totals ≡ finding_totals findings
 totals-all findings printed left totals are none same =
     same ∙ ap run_totals (sym (are ∙ ap (λ rest. printed ++ rest) none ∙ append-nil printed)) ∙ totals-of-runs findings
+
+-- how many clusters there are in runs
+abbrev pub run_lengths : List FindingRun → ℕ
+run_lengths [] = 0
+run_lengths (run ∷ runs) = run.count + run_lengths runs
+
+-- with a finding in front there is one more
+length-joined : (finding : Finding) (runs : List FindingRun) → run_lengths (joined_before finding runs) ≡ run_lengths runs + 1
+length-joined finding [] = refl
+length-joined finding (run ∷ runs) = by_test (goes_on (single finding) run.first) refl
+  where
+    by_test : (on : Bool) → goes_on (single finding) run.first ≡ on → run_lengths (joined_before finding (run ∷ runs)) ≡ run_lengths (run ∷ runs) + 1
+    by_test true on = rw on (omega arith)
+    by_test false off = rw off (omega arith)
+
+-- so all runs have as many clusters as there are findings
+lengths-of-runs : (findings : List Finding) → run_lengths (runs_of findings) ≡ length findings
+lengths-of-runs [] = refl
+lengths-of-runs (finding ∷ findings) =
+    let rest = lengths-of-runs findings in
+    length-joined finding (runs_of findings) ∙ omega (arith, rest)
+
+-- the clusters of one run more
+pub lengths-run : (printed : List FindingRun) (run : FindingRun) → run_lengths (printed ++ run ∷ []) ≡ run_lengths printed + run.count
+lengths-run [] run = omega arith
+lengths-run (one ∷ printed) run = let rest = lengths-run printed run in omega (arith, rest)
+
+-- all runs are counted
+pub lengths-all : (findings : List Finding) (printed left : List FindingRun) → runs_of findings ≡ printed ++ left → left ≡ []
+    → run_lengths printed ≡ length findings
+lengths-all findings printed left are none =
+    ap run_lengths (sym (are ∙ ap (λ rest. printed ++ rest) none ∙ append-nil printed)) ∙ lengths-of-runs findings
+
+-- no clusters past the end add nothing
+pub totals-past-none : (totals : Totals) → with_past totals 0 ≡ totals
+totals-past-none totals = ap (λ past. record totals { past = past }) (omega arith)

@@ -12,7 +12,7 @@ ghost use Rattle.qcow2_metadata.specs.Header.Grammar.{accepted_header, header_of
 ghost use Rattle.qcow2_metadata.specs.Header.Open.{header_after_load};
 ghost use Rattle.qcow2_metadata.specs.Results.{Answers, result_map};
 ghost use Rattle.qcow2_check.specs.Counters.{blocks_fault};
-ghost use Rattle.qcow2_check.specs.Findings.{AreRight, checked_tables};
+ghost use Rattle.qcow2_check.specs.Findings.{AreRight, EndsWithin, checked_tables};
 ghost use Rattle.qcow2_check.specs.Totals.{is_harmed};
 ghost use Rattle.qcow2_check.specs.Uses.{ImageTables};
 ghost use Rattle.qcow2_summary.specs.Consistency.{IsConsistent};
@@ -57,30 +57,33 @@ pub fn a_command_goes_by_the_header_of_its_bytes()
 
 /// If a check finds an image consistent, nothing is wrong with any of its clusters.
 pub fn all_is_right_where_the_verdict_is_fine()
-    ensures { (tables : ImageTables) (image : Image) → (report_on tables image).verdict ≡ Fine →
-        AreRight tables image 0 max_file_length }
+    ensures { (file : ℕ) (tables : ImageTables) (image : Image) →
+        (report_on file tables image).verdict ≡ Fine → AreRight tables image 0 max_file_length }
 {}
 
-/// A check's verdict is `Fine` exactly if the image is consistent and not marked corrupt, and its L1 table is
-/// long enough: no cluster has a finding, no copied flag is wrong, and no part of the disk is past the L1
-/// table.
+/// A check's verdict is `Fine` exactly if the image is consistent and not marked corrupt, its L1 table is
+/// long enough, and it ends within its file: no cluster has a finding, no copied flag is wrong, no part of
+/// the disk is past the L1 table, and no cluster past the file's end has references.
 pub fn a_verdict_is_fine_just_where_an_image_is_consistent()
-    ensures { (tables : ImageTables) (image : Image) → ((report_on tables image).verdict ≡ Fine)
-        ↔ (IsConsistent tables image × (is_harmed tables.header ≡ false)) }
+    ensures { (file : ℕ) (tables : ImageTables) (image : Image) →
+        ((report_on file tables image).verdict ≡ Fine)
+        ↔ (IsConsistent tables image × EndsWithin file tables image × (is_harmed tables.header ≡ false)) }
 {}
 
-/// A check's verdict is `Harmful` exactly if a cluster is missing or shared, a copied flag is false, the
-/// image is marked corrupt, or the L1 table is too short for the disk.
+/// A check's verdict is `Harmful` exactly if a cluster is missing or shared, a copied flag is false, a
+/// cluster past the end of the file has references, the image is marked corrupt, or the L1 table is too short
+/// for the disk.
 pub fn a_verdict_is_harmful_just_where_there_are_errors()
-    ensures { (tables : ImageTables) (image : Image) → ((report_on tables image).verdict ≢ Harmful)
-        ↔ (HasNoErrors tables image × (is_harmed tables.header ≡ false)) }
+    ensures { (file : ℕ) (tables : ImageTables) (image : Image) →
+        ((report_on file tables image).verdict ≢ Harmful)
+        ↔ (HasNoErrors tables image × EndsWithin file tables image × (is_harmed tables.header ≡ false)) }
 {}
 
 /// If the verdict on an image isn't `Harmful`, and no two L1 entries name one L2 table, the verdict after
 /// edits of the disk isn't either, with the header that they leave: a check can still load all tables, and
-/// finds leaked clusters and late flags at most. If the image's bytes had the header, they have the one
-/// that is left, so a check that reads it from them finds the same. That holds unless clearing the
-/// autoclear bits changes the backing file's name.
+/// finds leaked clusters and late flags at most, and references past the end of the file if edits map such
+/// clusters. If the image's bytes had the header, they have the one that is left, so a check that reads it
+/// from them finds the same. That holds unless clearing the autoclear bits changes the backing file's name.
 pub fn edits_of_a_disk_leave_no_harm_where_there_was_none()
     ensures { (header left : HeaderRecord) (edits : List GuestEdit) (clusters : ChangedClusters)
         (old new : Image) (tables : ImageTables) → IsValidHeader header →
@@ -94,7 +97,8 @@ pub fn edits_of_a_disk_leave_no_harm_where_there_was_none()
 /// and blocks don't overlap, as other laws require. Leaked clusters and late flags don't matter. A check
 /// doesn't report an L2 table that two L1 entries name as shared, since snapshots share tables in that way.
 pub fn tables_and_blocks_are_apart_where_a_check_finds_no_harm()
-    ensures { (tables : ImageTables) (image : Image) → (report_on tables image).verdict ≢ Harmful →
+    ensures { (file : ℕ) (tables : ImageTables) (image : Image) →
+        (report_on file tables image).verdict ≢ Harmful →
         blocks_fault tables.header tables.reftable ≡ None → ArePlacesApart (l2_tables_of tables) →
         AreAllApart tables }
 {}
@@ -153,10 +157,10 @@ pub fn a_consistent_image_reads_as_edits_leave_it()
 /// The same holds if a check's verdict on the image isn't `Harmful`: it may have leaked clusters and late
 /// flags.
 pub fn a_disk_without_harm_reads_as_edits_leave_it()
-    ensures { (header : HeaderRecord) (edits : List GuestEdit) (plan : Plan) (old new : Image) →
+    ensures { (header : HeaderRecord) (edits : List GuestEdit) (plan : Plan) (file : ℕ) (old new : Image) →
         IsValidHeader header → IsPlanFor header edits plan → IsPlanOf header edits old plan →
         FollowsPlan header edits plan (Ok tt) old new →
-        (report_on (tables_by header plan) old).verdict ≢ Harmful →
+        (report_on file (tables_by header plan) old).verdict ≢ Harmful →
         ArePlacesApart (l2_tables_of (tables_by header plan)) → (offset : ℕ) →
         mapping_in header offset new
         ≡ result_map (mapping_left header.v2.cluster_bits offset edits) (mapping_in header offset old) }
@@ -165,11 +169,11 @@ pub fn a_disk_without_harm_reads_as_edits_leave_it()
 /// And that holds by the image's bytes alone, if clearing the autoclear bits changes no byte of the backing
 /// file's name, or none is set.
 pub fn an_image_without_harm_reads_as_edits_leave_it()
-    ensures { (header : HeaderRecord) (edits : List GuestEdit) (plan : Plan) (old new : Image) →
+    ensures { (header : HeaderRecord) (edits : List GuestEdit) (plan : Plan) (file : ℕ) (old new : Image) →
         header_of old ≡ Ok header → LosesNoName header → IsValidHeader header →
         IsPlanFor header edits plan → IsPlanOf header edits old plan →
         FollowsPlan header edits plan (Ok tt) old new →
-        (report_on (tables_by header plan) old).verdict ≢ Harmful →
+        (report_on file (tables_by header plan) old).verdict ≢ Harmful →
         ArePlacesApart (l2_tables_of (tables_by header plan)) → (offset : ℕ) →
         image_mapping offset new
         ≡ result_map (mapping_left header.v2.cluster_bits offset edits) (image_mapping offset old) }
@@ -178,8 +182,8 @@ pub fn an_image_without_harm_reads_as_edits_leave_it()
 /// A completed repair keeps what each guest offset reads as, by the header that it leaves: the same kind,
 /// with the same cluster, offset and length. Only the copied flag may change.
 pub fn a_repaired_disk_reads_as_before()
-    ensures { (header written : HeaderRecord) (old new : Image) → IsValidHeader header → IsBytes old →
-        IsRepaired header written old new → (offset : ℕ) →
+    ensures { (file : ℕ) (header written : HeaderRecord) (old new : Image) →
+        IsValidHeader header → IsBytes old → IsRepaired file header written old new → (offset : ℕ) →
         ReadSame (mapping_in written offset new) (mapping_in header offset old) }
 {}
 

@@ -172,7 +172,7 @@ pub fn run_on_file<R: ImageFiles, O: Write>(
 }
 
 /// `qcow2_session::commands::check_image`.
-pub fn check_image<S: Storage, O: Write>(
+pub fn check_image<S: Device, O: Write>(
     alloc: Global,
     image: &mut S,
     header: &Header,
@@ -182,7 +182,7 @@ pub fn check_image<S: Storage, O: Write>(
 }
 
 /// `qcow2_session::commands::check_image_in_json`.
-pub fn check_image_in_json<S: Storage, O: Write>(
+pub fn check_image_in_json<S: Device, O: Write>(
     alloc: Global,
     image: &mut S,
     header: &Header,

@@ -76,21 +76,21 @@ const ROWS: &[Row] = rows! {
     Row { call: Line("map IMAGE"), printed: EXTENTS, ..ROW },
     Row { call: Line("map IMAGE json"), printed: JSON, ..ROW },
     Row { call: Line("at IMAGE 1543"), printed: "data 0xa00 copied\n", ..ROW },
-    // the L1 table and the refcount table, each L2 table for references, the block, each L2 table again for
-    // flags
-    Row { call: Line("check IMAGE"), before: ALL_KINDS, calls: 2 + 2 + 1 + 1 + 1, after: ALL_KINDS,
+    // the L1 table and the refcount table, each L2 table for references, the block, the file's end, each L2
+    // table again for flags
+    Row { call: Line("check IMAGE"), before: ALL_KINDS, calls: 2 + 2 + 1 + 1 + 1 + 1, after: ALL_KINDS,
         printed: ALL_LINES, ..ROW },
-    Row { call: Line("check IMAGE"), before: LATE_TABLES, calls: 2 + 2 + 2 + 1 + 2, after: LATE_TABLES,
+    Row { call: Line("check IMAGE"), before: LATE_TABLES, calls: 2 + 2 + 2 + 1 + 1 + 2, after: LATE_TABLES,
         printed: LATE_LINES, ..ROW },
     // and then the L1 table and each L2 table for entries
-    Row { call: Line("check IMAGE json"), before: ALL_KINDS, calls: 2 + 2 + 1 + 1 + 1 + 2, after: ALL_KINDS,
-        printed: ALL_OBJECT, ..ROW },
-    Row { call: Line("check IMAGE json"), before: LATE_TABLES, calls: 2 + 2 + 2 + 1 + 2 + 3,
+    Row { call: Line("check IMAGE json"), before: ALL_KINDS, calls: 2 + 2 + 1 + 1 + 1 + 1 + 2,
+        after: ALL_KINDS, printed: ALL_OBJECT, ..ROW },
+    Row { call: Line("check IMAGE json"), before: LATE_TABLES, calls: 2 + 2 + 2 + 1 + 1 + 2 + 3,
         after: LATE_TABLES, printed: LATE_OBJECT, ..ROW },
     // the header; the tables and the image's end; the reads of a check before the flags, and a sync; four
     // passes, each with a read of the L2 table or the block, and with a sync: the third reads the block again
     // and writes what has changed, the fourth writes the L1 table and the L2 table; and a check
-    Row { call: Line("check IMAGE repair"), before: TO_REPAIR, calls: 2 + 3 + 4 + 1 + 2 + 2 + 4 + 4 + 4,
+    Row { call: Line("check IMAGE repair"), before: TO_REPAIR, calls: 2 + 3 + 5 + 1 + 2 + 2 + 4 + 4 + 5,
         after: REPAIRED, printed: "consistent\n", again: "consistent\n", ..ROW },
     Row { call: Line("l2 IMAGE 9 2"), calls: 1, printed: "3 data 0xa00 copied\n", ..ROW },
     // an edit and a count end with a sync

@@ -5,7 +5,7 @@ ghost use Rattle.qcow2_base.specs.Storage.{OnImage, OnlyReads};
 ghost use Rattle.qcow2_metadata.specs.Results.{IsFromOutside};
 ghost use Rattle.qcow2_summary.specs.Consistency.{Judges};
 ghost use Rattle.qcow2_metadata.specs.Table.{IsContentFault};
-ghost use Rattle.qcow2_check.specs.Findings.{IsCheckFault, IsFindingsOf, IsLaterFault, checked_tables, tables_of};
+ghost use Rattle.qcow2_check.specs.Findings.{IsBegun, IsCheckFault, IsFindingsOf, IsLaterFault, checked_tables, tables_of};
 ghost use Rattle.qcow2_check.specs.Flags.{IsFlagsOf, flags_left};
 
 use qcow2_base::{Fault, Storage};
@@ -14,7 +14,8 @@ use qcow2_metadata::Header;
 use std::alloc::Global;
 
 /// Returns whether an image with this header is consistent: each cluster's refcount is its number of
-/// references, no references to a cluster exclude each other, and no copied flag is wrong.
+/// references, no references to a cluster exclude each other, and no copied flag is wrong. Doesn't look where
+/// the image's file ends.
 ///
 /// Returns the fault of `Findings::new`. Changes no byte.
 pub fn is_consistent<S: Storage>(
@@ -36,7 +37,7 @@ pub fn is_consistent<S: Storage>(
 // Whether an image has no finding and no wrong copied flag, by a reader before its first finding. Frees the
 // reader's memory.
 fn all_is_right<S: Storage>(mut findings: Findings<'_>, image: &mut S) -> Result<bool, Fault>
-    requires begun { findings.position ≡ 0 }
+    requires begun { IsBegun findings }
     requires reader { OnImage (S.state image.old) (λ bytes. IsFindingsOf bytes findings) }
     ensures judged { IfOk result (λ answer. OnImage (S.state image.old)
         (Judges answer (tables_of findings.entry))) }

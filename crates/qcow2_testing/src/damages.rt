@@ -49,6 +49,8 @@ pub struct Damage {
     pub name: &'static str,
     pub changes: Numbers<'static>,
     pub clusters: &'static [FoundCluster],
+    /// The clusters that have references though they begin past the image's end.
+    pub past: &'static [FoundCluster],
     pub flags: &'static [FoundFlag],
     /// Whether the L1 table is too short for the disk.
     pub is_short: bool,
@@ -63,6 +65,7 @@ pub struct FoundTotals {
     pub leaked: u64,
     pub missing: u64,
     pub shared: u64,
+    pub past: u64,
     pub false_flags: u64,
     pub late_flags: u64,
 }
@@ -76,6 +79,7 @@ impl Damage {
             leaked,
             missing,
             shared,
+            past: self.past.len() as u64,
             false_flags,
             late_flags,
         }
@@ -126,6 +130,11 @@ impl Repair {
     pub fn is_consistent(&self) -> bool {
         self.lines == "consistent\n"
     }
+
+    /// Whether its refcounts, references and flags agree, wherever it ends.
+    pub fn agrees(&self) -> bool {
+        self.is_consistent() || self.lines.starts_with("past ")
+    }
 }
 
 /// An image whose tables a repair loads: changes of the sample image, the offsets of its L2 tables, and the
@@ -163,6 +172,7 @@ const DAMAGE: Damage = Damage {
     name: "",
     changes: counted! {},
     clusters: &[],
+    past: &[],
     flags: &[],
     is_short: false,
     lines: "consistent\n",

@@ -31,7 +31,7 @@ pub fn sample_image(
 
 /// Changes that give the sample image with clusters of 512 bytes the right refcounts, and then further
 /// changes. The refcount table is cluster 3, and names one block, cluster 4. It has refcount 1 for clusters
-/// 0 to 5, in 16 bits each.
+/// 0 to 5, in 16 bits each. The image ends after cluster 9, whatever refers to clusters past its data.
 #[macro_export]
 macro_rules! counted {
     ($($change:expr),* $(,)?) => {
@@ -41,6 +41,7 @@ macro_rules! counted {
             (0x600, 0x800),
             (0x800, 0x0001_0001_0001_0001),
             (0x808, 0x0001_0001_0000_0000),
+            (0x13f8, 0),
             $($change),*
         ]
     };

@@ -3,7 +3,7 @@
 ghost use Rattle.std.specs.Prelude.{◌≡◌, ◌⊎◌, ◌+◌, Ok, IfErr, IfOk, IsOkUnless, length, map, set};
 ghost use Rattle.qcow2_base.specs.Storage.{OnImage, OnlyReads, image_of};
 ghost use Rattle.qcow2_base.specs.declared.fault.Fault.TheVariants.{NoMemory};
-ghost use Rattle.qcow2_check.specs.Findings.{IsFindingsOf, IsLaterFault, MovesFindings, checked_tables, image_findings, tables_of};
+ghost use Rattle.qcow2_check.specs.Findings.{IsBegun, IsFindingsOf, IsLaterFault, MovesFindings, checked_tables, image_findings, tables_of};
 ghost use Rattle.qcow2_check.specs.Totals.{finding_totals};
 ghost use Rattle.qcow2_metadata.specs.Results.{IsFromOutside};
 ghost use Rattle.qcow2_bytes.specs.Images.Check.{AreFirstPut, IsCheckRefusal, PutsFindings, finding_fields, tables_at, totals_in_fields};
@@ -51,7 +51,7 @@ pub struct CheckTotals {
 
 /// Checks an image by its whole bytes. Writes as many wrong clusters as fit into `findings`, in the order of
 /// clusters, and returns the totals of the whole check. Elements of `findings` after them don't change. Past
-/// its last byte the image reads as zeros.
+/// its last byte the image reads as zeros, and references to clusters there count like others.
 ///
 /// Returns the fault of the header or of `Findings::new` (one of 1 to 21 or 37), and then doesn't change
 /// `findings`. After 35 the elements of `findings` are unspecified, if the image can be checked.
@@ -107,7 +107,7 @@ fn put_all<S: Storage>(
     findings: &mut [FindingFields],
 ) -> Result<CheckTotals, Fault>
     requires reader { OnImage (S.state image.old) (λ bytes. IsFindingsOf bytes reader) }
-    requires begun { reader.position ≡ 0 }
+    requires begun { IsBegun reader }
     ensures checks { OnImage (S.state image.old) (λ bytes.
         PutsFindings (Ok (tables_of reader.entry)) bytes findings.old findings.new result) }
     ensures fault { IfErr result (IsLaterFault (S.state image.old)) }
@@ -126,7 +126,7 @@ fn put_findings<S: Storage>(
     findings: &mut [FindingFields],
 ) -> Result<(u64, Totals), Fault>
     requires reader { OnImage (S.state image.old) (λ bytes. IsFindingsOf bytes reader.old) }
-    requires begun { reader.old.position ≡ 0 }
+    requires begun { IsBegun reader.old }
     ensures put { IfOk result (λ counts. OnImage (S.state image.old) (λ bytes.
         let all = image_findings (tables_of reader.old) bytes in
         (counts.0 ≡ length all) × (counts.1 ≡ finding_totals all)

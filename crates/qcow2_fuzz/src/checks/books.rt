@@ -53,6 +53,7 @@ fn check_json(trial: &mut Trial<'_>, readings: &Readings) -> Result<(), Fault> {
     let totals = readings.totals;
     let corruptions = totals
         .missing
+        .saturating_add(totals.past)
         .saturating_add(totals.false_flags)
         .saturating_add(totals.late_flags)
         .saturating_add(u64::from(check.is_ok() && trial.fields.is_l1_short()));
@@ -61,6 +62,7 @@ fn check_json(trial: &mut Trial<'_>, readings: &Readings) -> Result<(), Fault> {
     let is_same = json_number(text, "\"leaks\"") == Some(totals.leaked)
         && json_number(text, "\"corruptions\"") == Some(corruptions)
         && json_number(text, "\"shared\"") == Some(totals.shared)
+        && json_number(text, "\"past\"") == Some(totals.past)
         && json_number(text, "\"false-flags\"") == Some(totals.false_flags)
         && json_number(text, "\"late-flags\"") == Some(totals.late_flags);
     let is_marked = check.is_err() || has_marks(text, fields);

@@ -50,7 +50,7 @@ fn check_left(trial: &mut Trial<'_>, totals: Option<Totals>, left: Fields) {
         "missing clusters and false flags at most",
         "others",
     );
-    let is_clean = totals.is_some_and(|totals| totals.missing == 0 && totals.false_flags == 0);
+    let is_clean = totals.is_some_and(|totals| !totals.has_errors());
     let before = trial.fields;
     let holds = left.is_dirty == (before.is_dirty && !is_clean)
         && left.is_corrupt == (before.is_corrupt && !is_clean);

@@ -74,10 +74,7 @@ const OF_EDITS: Run = Run {
 
 // A refcount table in cluster 3, and its block in cluster 4: clusters 0 to 4 and 7 have refcount 1, cluster
 // 5 has 2, and cluster 6 has 0.
-const COUNTED: Numbers = counted! { (COUNTERS_4, 0x0001_0002_0000_0001), BLOCK_END };
-
-// The last refcounts of the block, so that the image has all of it.
-const BLOCK_END: (u64, u64) = (BLOCK + 504, 0);
+const COUNTED: Numbers = counted! { (COUNTERS_4, 0x0001_0002_0000_0001) };
 
 // The output of `layout`.
 const LAYOUT: &str = "0 1 header\n1 1 l1\n2 1 l2\n3 1 refcount-table\n4 1 refcount-block\n\
@@ -94,10 +91,10 @@ const PICTURE: &str = picture!(
 );
 
 // The same with each refcount equal to its cluster's references.
-const REPAIRED: Numbers = counted! { BLOCK_END };
+const REPAIRED: Numbers = counted! {};
 
 // The same with an autoclear bit.
-const UNCLEARED: Numbers = counted! { AUTOCLEAR, BLOCK_END };
+const UNCLEARED: Numbers = counted! { AUTOCLEAR };
 
 // The same without it, with guest cluster 0 mapped to the data in cluster 6, and guest cluster 3 unmapped.
 const APPLIED: Numbers = counted! {
@@ -105,7 +102,6 @@ const APPLIED: Numbers = counted! {
     (L2_TABLE, COPIED + 0xc00),
     (DATA_ENTRY, 0),
     (COUNTERS_4, 0x0001_0000_0001_0000),
-    BLOCK_END,
 };
 
 // The output of `check`: the data has one reference, from an entry with the copied flag.

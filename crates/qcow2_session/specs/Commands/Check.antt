@@ -7,9 +7,10 @@ use Rattle.std.specs.Prelude.{◌≡◌, ◌≢◌, ◌⊎◌, Bool, false, true
 use Rattle.qcow2_base.specs.Storage.{Image, OnImage, ReadsFor, StorageState}
 use Rattle.qcow2_base.specs.declared.fault.Fault.{Fault}
 use Rattle.qcow2_base.specs.declared.fault.Fault.TheVariants.{Storage}
-use Rattle.qcow2_check.specs.Findings.{checked_tables, image_findings}
+use Rattle.qcow2_check.specs.FileEnd.{file_clusters}
+use Rattle.qcow2_check.specs.Findings.{checked_tables, image_findings, past_findings}
 use Rattle.qcow2_check.specs.Flags.{image_flags}
-use Rattle.qcow2_check.specs.Totals.{totals_on, verdict_in}
+use Rattle.qcow2_check.specs.Totals.{totals_on, totals_within, verdict_in}
 use Rattle.qcow2_check.specs.Uses.{ImageTables}
 use Rattle.qcow2_metadata.specs.Header.{HeaderRecord, each_feature}
 use Rattle.qcow2_metadata.specs.Results.{IsFromOutside, result_map}
@@ -17,7 +18,7 @@ use Rattle.qcow2_repair.specs.Refusals.{repair_within}
 use Rattle.qcow2_repair.specs.Repair.{RepairsImage}
 use Rattle.qcow2_check.specs.Failures.{RefusesAs}
 use Rattle.qcow2_session.specs.Commands.Check.Json.{checked_object}
-use Rattle.qcow2_session.specs.Commands.Check.Lines.{end_lines, flag_line, run_lines}
+use Rattle.qcow2_session.specs.Commands.Check.Lines.{end_lines, flag_line, past_line, run_lines}
 use Rattle.qcow2_session.specs.Commands.Check.Runs.{runs_of}
 use Rattle.qcow2_session.specs.Commands.Facts.{CommandFacts, plain_facts}
 use Rattle.qcow2_session.specs.Commands.Printing.{OutputGets, OutputGetsPart, Prints, Run}
@@ -34,25 +35,30 @@ pub record Report : Type 0 where
   pub lines : List ℕ
   pub verdict : Verdict
 
--- the report on an image with these tables: the runs of findings, the wrong flags, whether the L1 table is too short, and how
--- many they are
-abbrev pub report_on : ImageTables → Image → Report
-report_on tables image =
-    let runs = runs_of (image_findings tables image) in
+-- the lines of clusters of an image with these tables, in a file of that many clusters: the runs of findings, and those of used
+-- clusters past the file's end
+abbrev pub cluster_lines : ℕ → ImageTables → Image → List ℕ
+cluster_lines file tables image =
+    flat_map run_lines (runs_of (image_findings tables image)) ++ flat_map past_line (runs_of (past_findings file tables image))
+
+-- the report on that image: these lines, the wrong flags, whether the L1 table is too short, and how many they are
+abbrev pub report_on : ℕ → ImageTables → Image → Report
+report_on file tables image =
     let flags = image_flags tables image in
-    let totals = totals_on tables image in
+    let totals = totals_within file tables image in
     record {
-      lines = flat_map run_lines runs ++ flat_map flag_line flags ++ end_lines tables.header totals;
+      lines = cluster_lines file tables image ++ flat_map flag_line flags ++ end_lines tables.header totals;
       verdict = verdict_in tables.header totals;
     }
 
--- the report on an image with this header, or why it can't be checked
-abbrev pub checked_report : HeaderRecord → Image → Result Report Fault
-checked_report header image = result_map (λ tables. report_on tables image) (checked_tables header image)
+-- the report on an image with this header and of this length, or why it can't be checked
+abbrev pub checked_report : HeaderRecord → ℕ → Image → Result Report Fault
+checked_report header len image =
+    result_map (λ tables. report_on (file_clusters len header) tables image) (checked_tables header image)
 
--- an image with this header can be checked, and the verdict isn't `Harmful`
+-- an image with this header can be checked, and the verdict isn't `Harmful`, wherever its file ends
 abbrev pub FindsNoHarm : HeaderRecord → Image → Type 0
-FindsNoHarm header image = IsOkAnd (checked_report header image) (λ report. report.verdict ≢ Harmful)
+FindsNoHarm header image = IsOkAnd (checked_tables header image) (λ tables. verdict_in tables.header (totals_on tables image) ≢ Harmful)
 
 -- the lines of a report, none where there is no report
 abbrev pub lines_of : Result Report Fault → List ℕ
@@ -87,7 +93,7 @@ check_command image _ = None
 
 -- a run checks an image with this header: it prints the report, and may run out of memory after a part of it. It only reads
 abbrev pub Checks : {O : Type 0} → HeaderRecord → Run Verdict O → Type 0
-Checks header run = PrintsReport run (checked_report header) × ReadsFor (IsErrOf run.answer Storage) run.old run.new
+Checks header run = PrintsReport run (checked_report header run.old.len) × ReadsFor (IsErrOf run.answer Storage) run.old run.new
 
 -- a run repairs an image with this header, and then checks what that left, with the header that it has then. That can be
 -- checked, so a fault then is from outside. Or the repair was refused, before anything was printed
@@ -103,7 +109,7 @@ RepairsAndChecks header run = (repaired : Result HeaderRecord Fault) × (left : 
 abbrev pub EndsCheck : {O : Type 0} → CheckForm → HeaderRecord → Run Verdict O → Type 0
 EndsCheck form.Text header run = Checks header run
 EndsCheck (form.Json file_name) header run =
-    Prints run (checked_object file_name header) × HasVerdict run (checked_report header)
+    Prints run (checked_object file_name header run.old.len) × HasVerdict run (checked_report header run.old.len)
 EndsCheck form.Repair header run = RepairsAndChecks header run
 
 -- whether a form of a check repairs the image

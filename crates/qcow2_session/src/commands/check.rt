@@ -1,14 +1,15 @@
 //! The command `check`: compares refcounts and copied flags with the references, and repairs them.
 
-ghost use Rattle.std.specs.Prelude.{◌≡◌, IfOk, IsErrOf, false, flat_map, map, string_bytes};
+ghost use Rattle.std.specs.Prelude.{◌≡◌, IfOk, IsErrOf, false, flat_map, length, map, string_bytes};
 ghost use Rattle.qcow2_base.specs.Storage.{OnImage, ReadsFor};
 ghost use Rattle.qcow2_base.specs.declared.fault.Fault.TheVariants.{Storage as StorageFailed};
-ghost use Rattle.qcow2_check.specs.Findings.{IsFindingsOf, MovesFindings, tables_of};
+ghost use Rattle.qcow2_check.specs.FileEnd.{file_clusters};
+ghost use Rattle.qcow2_check.specs.Findings.{IsBegun, IsFindingsOf, MovesFindings, tables_of};
 ghost use Rattle.qcow2_check.specs.Flags.{IsFlagsOf, flags_left};
-ghost use Rattle.qcow2_check.specs.Totals.{finding_totals, verdict_in, with_flags};
-ghost use Rattle.qcow2_session.specs.Commands.Check.{EndsCheck, HasVerdict, PrintsLines, PrintsReport, RepairsAndChecks, check_command, checked_report, prints_early, repairs, report_on};
+ghost use Rattle.qcow2_check.specs.Totals.{cluster_totals, finding_totals, verdict_in, with_flags, with_past};
+ghost use Rattle.qcow2_session.specs.Commands.Check.{EndsCheck, HasVerdict, PrintsLines, PrintsReport, RepairsAndChecks, check_command, checked_report, cluster_lines, prints_early, repairs, report_on};
 ghost use Rattle.qcow2_session.specs.Commands.Check.Json.{checked_object};
-ghost use Rattle.qcow2_session.specs.Commands.Check.Lines.{end_lines, flag_line, run_lines};
+ghost use Rattle.qcow2_session.specs.Commands.Check.Lines.{end_lines, flag_line, past_line, run_lines};
 ghost use Rattle.qcow2_session.specs.Commands.Check.Runs.{all_left, runs_left};
 ghost use Rattle.qcow2_session.specs.Commands.Printing.{Prints, PrintsLast, PrintsText, run_over};
 ghost use Rattle.qcow2_session.specs.Commands.Words.{Parses};
@@ -19,7 +20,7 @@ use crate::Verdict;
 use crate::lines::{LineBuffer, Output, ToLine, print};
 use account::take_account;
 use json::print_object;
-use lines::end_lines;
+use lines::{end_lines, put_past};
 use qcow2_base::{Device, Fault, Storage};
 use qcow2_check::{Findings, Flags, Totals};
 use qcow2_metadata::Header;
@@ -48,19 +49,19 @@ pub enum CheckForm {
 /// Prints what is wrong with the refcounts and copied flags of an image with this header, and returns the
 /// verdict. First come clusters whose refcount isn't their number of references, or whose references
 /// exclude each other: for each run of neighbours with the same numbers a line of each kind that applies.
-/// Then come wrong flags, then an L1 table that is too short for the disk, and last the totals, or that the
-/// image is consistent.
+/// Then come clusters past the end of the file that have references, if the end is known, and wrong flags,
+/// then an L1 table that is too short for the disk, and last the totals, or that the image is consistent.
 ///
 /// Returns the fault of `Findings::new` before any line. A fault after a line is 34 or 35. A failed write
 /// to `out` is the storage fault. Changes no byte of the image.
-pub fn check_image<S: Storage, O: Write>(
+pub fn check_image<S: Device, O: Write>(
     alloc: Global,
     image: &mut S,
     header: &Header,
     out: &mut O,
 ) -> Result<Verdict, Fault>
     ensures prints { PrintsReport (run_over S.state O.contents result image.old image.new out.old out.new)
-        (checked_report header.now) }
+        (checked_report header.now (S.state image.old).len) }
     ensures storage { ReadsFor (IsErrOf result StorageFailed) (S.state image.old) (S.state image.new) }
 {
     let findings = Findings::new(alloc, image, header)?;
@@ -72,7 +73,7 @@ pub fn check_image<S: Storage, O: Write>(
 ///
 /// Returns the fault of `Findings::new`, or 34 or 35, before it prints anything. A failed write to `out` is
 /// the storage fault. Changes no byte of the image.
-pub fn check_image_in_json<S: Storage, O: Write>(
+pub fn check_image_in_json<S: Device, O: Write>(
     alloc: Global,
     image: &mut S,
     header: &Header,
@@ -80,9 +81,9 @@ pub fn check_image_in_json<S: Storage, O: Write>(
     out: &mut O,
 ) -> Result<Verdict, Fault>
     ensures prints { Prints (run_over S.state O.contents result image.old image.new out.old out.new)
-        (checked_object file_name.now header.now) }
+        (checked_object file_name.now header.now (S.state image.old).len) }
     ensures verdict { HasVerdict (run_over S.state O.contents result image.old image.new out.old out.new)
-        (checked_report header.now) }
+        (checked_report header.now (S.state image.old).len) }
     ensures last { PrintsLast (run_over S.state O.contents result image.old image.new out.old out.new) }
     ensures unchanged { (S.state image.new).byte_at ≡ (S.state image.old).byte_at }
 {
@@ -163,7 +164,7 @@ pub(super) fn parse(
 }
 
 // Prints the report of a reader at the start of an image's findings, and returns the verdict.
-fn print_report<S: Storage, O: Write>(
+fn print_report<S: Device, O: Write>(
     findings: Findings<'_>,
     image: &mut S,
     header: &Header,
@@ -171,18 +172,46 @@ fn print_report<S: Storage, O: Write>(
 ) -> Result<Verdict, Fault>
     requires header { findings.header ≡ header.now }
     requires reader { OnImage (S.state image.old) (λ bytes. IsFindingsOf bytes findings) }
-    requires begun { findings.position ≡ 0 }
+    requires begun { IsBegun findings }
     ensures prints { PrintsLines (run_over S.state O.contents result image.old image.new out.old out.new)
-        (λ bytes. (report_on (tables_of findings.entry) bytes).lines) }
+        (λ bytes. let file = file_clusters (S.state image.old).len findings.entry.header in
+        (report_on file (tables_of findings.entry) bytes).lines) }
     ensures verdict { IfOk result (λ verdict. OnImage (S.state image.old) (λ bytes.
-        verdict ≡ (report_on (tables_of findings.entry) bytes).verdict)) }
+        let file = file_clusters (S.state image.old).len findings.entry.header in
+        verdict ≡ (report_on file (tables_of findings.entry) bytes).verdict)) }
+    ensures storage { ReadsFor (IsErrOf result StorageFailed) (S.state image.old) (S.state image.new) }
+{
+    let (past, cluster_totals) = print_clusters(findings, image, out)?;
+    let mut flags = past.into_flags();
+    let totals = print_flags(&mut flags, image, cluster_totals, out)?;
+    print_end(&totals, header, out)
+}
+
+// Prints the runs of a reader at the start of an image's findings, and then the clusters past the end of the
+// image's file that have references. Returns the reader after these, and the totals of all.
+fn print_clusters<'a, S: Device, O: Write>(
+    findings: Findings<'a>,
+    image: &mut S,
+    out: &mut O,
+) -> Result<(Findings<'a>, Totals), Fault>
+    requires reader { OnImage (S.state image.old) (λ bytes. IsFindingsOf bytes findings) }
+    requires begun { IsBegun findings }
+    ensures prints { PrintsLines (run_over S.state O.contents result image.old image.new out.old out.new)
+        (λ bytes. let file = file_clusters (S.state image.old).len findings.entry.header in
+        cluster_lines file (tables_of findings.entry) bytes) }
+    ensures totals { IfOk result (λ found. OnImage (S.state image.old) (λ bytes.
+        let file = file_clusters (S.state image.old).len findings.entry.header in
+        found.1 ≡ cluster_totals file (tables_of findings.entry) bytes)) }
+    ensures reader { IfOk result (λ found. (tables_of found.0 ≡ tables_of findings.entry)
+        × OnImage (S.state image.new) (λ bytes. IsFindingsOf bytes found.0)) }
     ensures storage { ReadsFor (IsErrOf result StorageFailed) (S.state image.old) (S.state image.new) }
 {
     let mut runs = FindingRuns::new(findings);
     let totals = print_runs(&mut runs, image, out)?;
-    let mut flags = runs.into_findings().into_flags();
-    let totals = print_flags(&mut flags, image, totals, out)?;
-    print_end(&totals, header, out)
+    let past = runs.into_findings().into_past_end(image)?;
+    let mut past_runs = FindingRuns::new(past);
+    let totals = print_past(&mut past_runs, image, totals, out)?;
+    Ok((past_runs.into_findings(), totals))
 }
 
 // Prints the last lines of a check of an image with this header, and returns the verdict.
@@ -214,6 +243,32 @@ fn print_runs<S: Storage, O: Write>(
     while let Some(run) = runs.next(image)? {
         totals = totals.with_clusters(&run.first, run.count)?;
         run.put_in(&mut line);
+        print(line.as_bytes(), out)?;
+    }
+    Ok(totals)
+}
+
+// Prints the runs that a reader of clusters past the end of the image's file has left, and returns the totals
+// with their clusters.
+fn print_past<S: Storage, O: Write>(
+    runs: &mut FindingRuns<'_>,
+    image: &mut S,
+    totals: Totals,
+    out: &mut O,
+) -> Result<Totals, Fault>
+    requires { OnImage (S.state image.old) (λ bytes. IsFindingsOf bytes runs.old.findings) }
+    ensures prints { PrintsLines (run_over S.state O.contents result image.old image.new out.old out.new)
+        (λ bytes. flat_map past_line (runs_left runs.old bytes)) }
+    ensures totals { IfOk result (λ new. OnImage (S.state image.old) (λ bytes.
+        new ≡ with_past totals (length (all_left runs.old bytes)))) }
+    ensures reader { MovesFindings (S.state image.old) runs.old.findings runs.new.findings }
+    ensures storage { ReadsFor (IsErrOf result StorageFailed) (S.state image.old) (S.state image.new) }
+{
+    let mut totals = totals;
+    let mut line = LineBuffer::new();
+    while let Some(run) = runs.next(image)? {
+        totals = totals.with_past(run.count)?;
+        put_past(&run, &mut line);
         print(line.as_bytes(), out)?;
     }
     Ok(totals)

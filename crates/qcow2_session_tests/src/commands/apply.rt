@@ -6,35 +6,33 @@ use crate::failing_output::Failure::{Flush, WriteAfter};
 use qcow2_testing::{COPIED, Numbers, counted, rows};
 use std::test::Fail;
 
-// The sample image with refcounts and a seventh cluster, 6, which is free.
-const BOOKS: Numbers<'static> = counted! { (0xdf8, 0) };
+// The sample image with refcounts. Clusters 6 to 9 are free.
+const BOOKS: Numbers<'static> = counted! {};
 
 // The same without data in guest cluster 3, and with cluster 5 free.
-const DISCARDED: Numbers<'static> =
-    counted! { (0xdf8, 0), (0x418, 0), (0x808, 0x0001_0000_0000_0000) };
+const DISCARDED: Numbers<'static> = counted! { (0x418, 0), (0x808, 0x0001_0000_0000_0000) };
 
-const ZEROED: Numbers<'static> =
-    counted! { (0xdf8, 0), (0x418, 1), (0x808, 0x0001_0000_0000_0000) };
+const ZEROED: Numbers<'static> = counted! { (0x418, 1), (0x808, 0x0001_0000_0000_0000) };
 
-const KEPT: Numbers<'static> = counted! { (0xdf8, 0), (0x418, COPIED + 0xa01) };
+const KEPT: Numbers<'static> = counted! { (0x418, COPIED + 0xa01) };
 
 // Data of guest cluster 0 in cluster 6.
 const MAPPED: Numbers<'static> = counted! {
-    (0xdf8, 0), (0x400, COPIED + 0xc00), (0x808, 0x0001_0001_0001_0000)
+    (0x400, COPIED + 0xc00), (0x808, 0x0001_0001_0001_0000)
 };
 
 const MAPPED_AND_DISCARDED: Numbers<'static> = counted! {
-    (0xdf8, 0), (0x400, COPIED + 0xc00), (0x418, 0), (0x808, 0x0001_0000_0001_0000)
+    (0x400, COPIED + 0xc00), (0x418, 0), (0x808, 0x0001_0000_0001_0000)
 };
 
 // Cluster 5 with refcount 2, and with refcount 1 after it lost a reference.
 const TWICE: Numbers<'static> = counted! { (0x808, 0x0001_0002_0000_0000) };
 
-const ONCE: Numbers<'static> = counted! { (0x418, 0), (0x9f8, 0) };
+const ONCE: Numbers<'static> = counted! { (0x418, 0) };
 
 const UNCOUNTED: Numbers<'static> = counted! { (0x808, 0x0001_0000_0000_0000) };
 
-const AUTOCLEAR: Numbers<'static> = counted! { (0xdf8, 0), (88, 1) };
+const AUTOCLEAR: Numbers<'static> = counted! { (88, 1) };
 
 const NOT_COPIED: Numbers<'static> = counted! { (0x200, 0x400) };
 
@@ -83,28 +81,28 @@ const PLANNED: &[Run<'static>] = rows! {
 
 // A bitmaps extension with three bitmaps. By the autoclear bit they agree with the disk.
 const BITMAPS: Numbers<'static> = counted! {
-    (0xdf8, 0), (88, 1), (104, 0x2385_2875_0000_0018), (112, 3 << 32), (120, 96), (128, 0x1000),
+    (88, 1), (104, 0x2385_2875_0000_0018), (112, 3 << 32), (120, 96), (128, 0x1000),
 };
 
 // The same without that autoclear bit, so that they don't agree. The next bit marks an external data file as
 // raw.
 const STALE: Numbers<'static> = counted! {
-    (0xdf8, 0), (88, 2), (104, 0x2385_2875_0000_0018), (112, 3 << 32), (120, 96), (128, 0x1000),
+    (88, 2), (104, 0x2385_2875_0000_0018), (112, 3 << 32), (120, 96), (128, 0x1000),
 };
 
 // Another extension, and then a bitmaps extension with the largest number of bitmaps.
 const SECOND: Numbers<'static> = counted! {
-    (0xdf8, 0), (88, 3), (104, 0x2385_2876_0000_0004), (112, 1 << 32), (120, 0x2385_2875_0000_0004),
+    (88, 3), (104, 0x2385_2876_0000_0004), (112, 1 << 32), (120, 0x2385_2875_0000_0004),
     (128, 0xffff_ffff_0000_0000),
 };
 
 // A bitmaps extension of three bytes, too short for a number.
 const CUT: Numbers<'static> = counted! {
-    (0xdf8, 0), (88, 1), (104, 0x2385_2875_0000_0003), (112, 0x0000_0300_0000_0000),
+    (88, 1), (104, 0x2385_2875_0000_0003), (112, 0x0000_0300_0000_0000),
 };
 
 const BITMAPS_DISCARDED: Numbers<'static> = counted! {
-    (0xdf8, 0), (0x418, 0), (0x808, 0x0001_0000_0000_0000), (104, 0x2385_2875_0000_0018), (112, 3 << 32),
+    (0x418, 0), (0x808, 0x0001_0000_0000_0000), (104, 0x2385_2875_0000_0018), (112, 3 << 32),
     (120, 96), (128, 0x1000),
 };
 
@@ -118,7 +116,7 @@ const WITH_BITMAPS: &[Run<'static>] = rows! {
         after: SECOND, ..RUN },
     Run { line: "apply IMAGE plan discard:0x600", before: STALE, ended: Done(FREED), after: STALE, ..RUN },
     Run { line: "apply IMAGE plan discard:0x600", before: CUT, ended: Done(FREED), after: CUT, ..RUN },
-    Run { line: "apply IMAGE plan map:0:7", before: BITMAPS, ended: BAD_EDIT, after: BITMAPS, ..RUN },
+    Run { line: "apply IMAGE plan map:0:10", before: BITMAPS, ended: BAD_EDIT, after: BITMAPS, ..RUN },
     Run { line: "apply IMAGE plan discard:0x600", before: BITMAPS, out: WriteAfter(16),
         ended: Failed("freed 5 1\nstale-", STORAGE), after: BITMAPS, ..RUN },
     Run { line: "apply IMAGE discard:0x600", before: BITMAPS, ended: Done(FREED), after: BITMAPS_DISCARDED,
@@ -136,8 +134,8 @@ const UNFIT: &[Run<'static>] = rows! {
     Run { line: "apply IMAGE discard:0:511", before: BOOKS, ended: BAD_EDIT, after: BOOKS, ..RUN },
     Run { line: "apply IMAGE discard:0x8000", before: BOOKS, ended: BAD_EDIT, after: BOOKS, ..RUN },
     Run { line: "apply IMAGE map:0:5", before: BOOKS, ended: BAD_EDIT, after: BOOKS, ..RUN },
-    Run { line: "apply IMAGE map:0:7", before: BOOKS, ended: BAD_EDIT, after: BOOKS, ..RUN },
-    Run { line: "apply IMAGE plan map:0:7", before: BOOKS, ended: BAD_EDIT, after: BOOKS, ..RUN },
+    Run { line: "apply IMAGE map:0:10", before: BOOKS, ended: BAD_EDIT, after: BOOKS, ..RUN },
+    Run { line: "apply IMAGE plan map:0:10", before: BOOKS, ended: BAD_EDIT, after: BOOKS, ..RUN },
 };
 
 const REFUSED: &[Run<'static>] = rows! {
@@ -158,7 +156,7 @@ const REFUSED: &[Run<'static>] = rows! {
 };
 
 // An L1 table that is too short for the disk, and tables past the file's end, also for edits of other tables.
-// The file has seven clusters.
+// The file has ten clusters.
 const BY_FILE: &[Run<'static>] = rows! {
     Run { line: "apply IMAGE discard:0x600", before: LONG_DISK, ended: SHORT, after: LONG_DISK, ..RUN },
     Run { line: "apply IMAGE plan discard:0x600", before: LONG_DISK, ended: SHORT, after: LONG_DISK, ..RUN },
@@ -173,16 +171,15 @@ const BY_FILE: &[Run<'static>] = rows! {
 };
 
 // A disk that is one byte longer than the L1 table covers.
-const LONG_DISK: Numbers<'static> = counted! { (24, 32769), (0xdf8, 0) };
+const LONG_DISK: Numbers<'static> = counted! { (24, 32769) };
 
 // A second L2 table right after the file's end.
-const FAR_TABLE: Numbers<'static> =
-    counted! { (24, 65536), (32, 2), (0x208, COPIED + 0xe00), (0xdf8, 0) };
+const FAR_TABLE: Numbers<'static> = counted! { (24, 65536), (32, 2), (0x208, COPIED + 0x1400) };
 
-const FAR_BLOCK: Numbers<'static> = counted! { (0x608, 0x1_0000), (0xdf8, 0) };
+const FAR_BLOCK: Numbers<'static> = counted! { (0x608, 0x1_0000) };
 
 const FAR_AND_SNAPSHOTS: Numbers<'static> =
-    counted! { (24, 65536), (32, 2), (60, 1 << 32), (0x208, COPIED + 0xe00), (0xdf8, 0) };
+    counted! { (24, 65536), (32, 2), (60, 1 << 32), (0x208, COPIED + 0x1400) };
 
 const SHORT: Ended<'static> = Failed("", "qmeta: fault 41\n");
 

@@ -17,7 +17,13 @@ use std::test::Fail;
 /// Returns the verdict on an image with this damage.
 pub(super) fn verdict_of(row: &Damage) -> Verdict {
     let totals = row.totals();
-    let is_harmful = totals.missing > 0 || totals.shared > 0 || totals.false_flags > 0;
+    let harms = [
+        totals.missing,
+        totals.shared,
+        totals.past,
+        totals.false_flags,
+    ];
+    let is_harmful = harms.iter().any(|count| *count > 0);
     if is_harmful || row.is_short {
         return Verdict::Harmful;
     }

@@ -63,6 +63,7 @@ fn object_of(alloc: Global, row: &Damage) -> Result<String, AllocError> {
     let (sizes, totals) = (row.sizes, row.totals());
     let corruptions = totals
         .missing
+        .wrapping_add(totals.past)
         .wrapping_add(totals.false_flags)
         .wrapping_add(totals.late_flags)
         .wrapping_add(u64::from(row.is_short));
@@ -73,6 +74,7 @@ fn object_of(alloc: Global, row: &Damage) -> Result<String, AllocError> {
     text.push_str(",\n    \"check-errors\": 0")?;
     add_count(&mut text, "leaks", totals.leaked)?;
     add_count(&mut text, "shared", totals.shared)?;
+    add_count(&mut text, "past", totals.past)?;
     add_count(&mut text, "false-flags", totals.false_flags)?;
     add_count(&mut text, "late-flags", totals.late_flags)?;
     add_count(&mut text, "allocated-clusters", sizes.allocated)?;

@@ -63,20 +63,19 @@ fn check_refused(rt: &HostRuntime, row: &Unrepairable) -> Result<(), Fail> {
     check_run(rt, row.name, &run)
 }
 
-// Tables past the file's end. The file has five clusters, the last of them incomplete, or the number that a
-// row names.
+// Tables past the file's end. The file has ten clusters.
 const PAST_END: &[Unrepairable] = rows! { Unrepairable:
     { name: "an L2 table", changes: counted! { AUTOCLEAR, (TABLE_ENTRY, COPIED + 0x1_0000) },
         fault: Fault::TablePlace },
-    { name: "an L2 table right after a file of six clusters",
-        changes: counted! { LARGER, TWO_TABLES, (NEXT_TABLE, COPIED + 0xc00), (0xa00 + 504, 0) },
+    { name: "an L2 table right after the file",
+        changes: counted! { LARGER, TWO_TABLES, (NEXT_TABLE, COPIED + 0x1400) },
         fault: Fault::TablePlace },
     { name: "a block", changes: counted! { (REFTABLE + 8, 0x1_0000) }, fault: Fault::TablePlace },
-    { name: "the second cluster of the refcount table, after six",
-        changes: counted! { (48, 0xa00), (56, 2 << 32), (0xa00, 0x800) }, fault: Fault::TablePlace },
-    { name: "the second cluster of the L1 table, after six",
-        changes: counted! { (32, 65), (40, 0xa00), (0xa00, 0) }, fault: Fault::TablePlace },
-    { name: "the L1 table", changes: counted! { (40, 0xa00) }, fault: Fault::TablePlace },
+    { name: "the second cluster of the refcount table",
+        changes: counted! { (48, 0x1200), (56, 2 << 32), (0x1200, 0x800) }, fault: Fault::TablePlace },
+    { name: "the second cluster of the L1 table",
+        changes: counted! { (32, 65), (40, 0x1200) }, fault: Fault::TablePlace },
+    { name: "the L1 table", changes: counted! { (40, 0x1400) }, fault: Fault::TablePlace },
     // faults that a check finds first
     { name: "snapshots and an L2 table",
         changes: counted! { (56, 1 << 32 | 1), (TABLE_ENTRY, COPIED + 0x1_0000) }, fault: SNAPSHOTS },

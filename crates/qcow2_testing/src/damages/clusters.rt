@@ -114,7 +114,11 @@ const USES: &[Damage] = rows! {
         clusters: found! {
             140737488355327 counter 0 uses 1 shared false, 140737488355328 counter 0 uses 1 shared false
         },
-        lines: "missing 140737488355327 2 0 1\nleaked 0 missing 2 shared 0 false 0 late 0\n",
+        past: found! {
+            140737488355327 counter 0 uses 1 shared false, 140737488355328 counter 0 uses 1 shared false
+        },
+        lines: "missing 140737488355327 2 0 1\npast 140737488355327 2 0 1\n\
+            leaked 0 missing 2 shared 0 false 0 late 0 past 2\n",
         sizes: Sizes { end: 72057594037927936, allocated: 2, compressed: 1, fragmented: 1, ..SIZES },
         ..DAMAGE },
     Damage { name: "compressed data between data in a row",
@@ -127,20 +131,24 @@ const USES: &[Damage] = rows! {
         sizes: Sizes { end: 3584, allocated: 2, ..SIZES }, ..DAMAGE },
     Damage { name: "the last cluster", changes: counted! { (NEXT_ENTRY, LAST) },
         clusters: found! { 140737488355327 counter 0 uses 1 shared false },
-        lines: "missing 140737488355327 1 0 1\nleaked 0 missing 1 shared 0 false 0 late 0\n",
+        past: found! { 140737488355327 counter 0 uses 1 shared false },
+        lines: "missing 140737488355327 1 0 1\npast 140737488355327 1 0 1\n\
+            leaked 0 missing 1 shared 0 false 0 late 0 past 1\n",
         sizes: Sizes { end: 72057594037927936, allocated: 2, fragmented: 1, ..SIZES }, ..DAMAGE },
     Damage { name: "the last cluster with the flag", changes: counted! { (NEXT_ENTRY, COPIED + LAST) },
         clusters: found! { 140737488355327 counter 0 uses 1 shared false },
+        past: found! { 140737488355327 counter 0 uses 1 shared false },
         flags: wrong! { offset 0x800 cluster 140737488355327 set true counter Some(0) },
-        lines: "missing 140737488355327 1 0 1\nfalse 0x800 140737488355327 0\n\
-            leaked 0 missing 1 shared 0 false 1 late 0\n",
+        lines: "missing 140737488355327 1 0 1\npast 140737488355327 1 0 1\n\
+            false 0x800 140737488355327 0\nleaked 0 missing 1 shared 0 false 1 late 0 past 1\n",
         sizes: Sizes { end: 72057594037927936, allocated: 2, fragmented: 1, ..SIZES }, ..DAMAGE },
     Damage { name: "the last cluster in place of data", changes: counted! { (DATA_ENTRY, LAST) },
         clusters: found! {
             5 counter 1 uses 0 shared false, 140737488355327 counter 0 uses 1 shared false
         },
-        lines: "leaked 5 1 1 0\nmissing 140737488355327 1 0 1\n\
-            leaked 1 missing 1 shared 0 false 0 late 0\n",
+        past: found! { 140737488355327 counter 0 uses 1 shared false },
+        lines: "leaked 5 1 1 0\nmissing 140737488355327 1 0 1\npast 140737488355327 1 0 1\n\
+            leaked 1 missing 1 shared 0 false 0 late 0 past 1\n",
         sizes: Sizes { end: 72057594037927936, ..SIZES }, ..DAMAGE },
     Damage { name: "clusters far apart", changes: FAR_APART,
         clusters: found! {
@@ -148,10 +156,38 @@ const USES: &[Damage] = rows! {
             4096 counter 0 uses 1 shared false, 8192 counter 0 uses 1 shared false,
             2147483648 counter 0 uses 1 shared false, 140737488355327 counter 0 uses 2 shared false
         },
+        past: found! {
+            256 counter 0 uses 1 shared false, 4095 counter 0 uses 1 shared false,
+            4096 counter 0 uses 1 shared false, 8192 counter 0 uses 1 shared false,
+            2147483648 counter 0 uses 1 shared false, 140737488355327 counter 0 uses 2 shared false
+        },
         lines: "missing 256 1 0 1\nmissing 4095 2 0 1\nmissing 8192 1 0 1\n\
             missing 2147483648 1 0 1\nmissing 140737488355327 1 0 2\n\
-            leaked 0 missing 6 shared 0 false 0 late 0\n",
+            past 256 1 0 1\npast 4095 2 0 1\npast 8192 1 0 1\n\
+            past 2147483648 1 0 1\npast 140737488355327 1 0 2\n\
+            leaked 0 missing 6 shared 0 false 0 late 0 past 6\n",
         sizes: Sizes { end: 72057594037927936, allocated: 8, fragmented: 6, ..SIZES }, ..DAMAGE },
+    // at the end of the file, after cluster 9
+    Damage { name: "data in the file's last cluster",
+        changes: counted! { (NEXT_ENTRY, COPIED + 0x1200), (COUNTERS_8, 0x0000_0001_0000_0000) },
+        sizes: Sizes { end: 5120, allocated: 2, fragmented: 1, ..SIZES }, ..DAMAGE },
+    Damage { name: "data past the file",
+        changes: counted! { (NEXT_ENTRY, COPIED + 0x1400), (COUNTERS_8, 0x0001_0000) },
+        past: found! { 10 counter 1 uses 1 shared false },
+        lines: "past 10 1 1 1\nleaked 0 missing 0 shared 0 false 0 late 0 past 1\n",
+        sizes: Sizes { end: 5632, allocated: 2, fragmented: 1, ..SIZES }, ..DAMAGE },
+    Damage { name: "data in a row past the file",
+        changes: counted! {
+            (NEXT_ENTRY, COPIED + 0x1400), (THIRD_ENTRY, COPIED + 0x1600), (COUNTERS_8, 0x0001_0001)
+        },
+        past: found! { 10 counter 1 uses 1 shared false, 11 counter 1 uses 1 shared false },
+        lines: "past 10 2 1 1\nleaked 0 missing 0 shared 0 false 0 late 0 past 2\n",
+        sizes: Sizes { end: 6144, allocated: 3, fragmented: 1, ..SIZES }, ..DAMAGE },
+    Damage { name: "the refcount of an unused cluster past the file",
+        changes: counted! { (COUNTERS_8, 0x0001_0000) },
+        clusters: found! { 10 counter 1 uses 0 shared false },
+        lines: "leaked 10 1 1 0\nleaked 1 missing 0 shared 0 false 0 late 0\n",
+        sizes: Sizes { end: 5632, ..SIZES }, ..DAMAGE },
     Damage { name: "data in a row", changes: counted! { (NEXT_ENTRY, COPIED + 0xc00), TO_6 },
         sizes: Sizes { end: 3584, allocated: 2, ..SIZES }, ..DAMAGE },
     Damage { name: "data in a row after a gap", changes: counted! { (THIRD_ENTRY, COPIED + 0xc00), TO_6 },

@@ -17,38 +17,33 @@ const CONSISTENT: Repair = Repair {
     lines: "consistent\n",
 };
 
-// The last refcounts of the block: an image whose block was written has all of it.
-const BLOCK_END: (u64, u64) = (COUNTERS + 504, 0);
-
-const WRITTEN: Numbers<'static> = counted! { BLOCK_END };
-
 // The data of two entries, with refcount 2 and without copied flags.
-const SHARED_DATA: Numbers<'static> = counted! { DATA, (NEXT_ENTRY, 0xa00), TWICE, BLOCK_END };
+const SHARED_DATA: Numbers<'static> = counted! { DATA, (NEXT_ENTRY, 0xa00), TWICE };
 
 const COUNTS: &[Repair] = rows! {
     Repair { name: "an image in order", ..CONSISTENT },
     Repair { name: "an autoclear feature", changes: counted! { AUTOCLEAR }, ..CONSISTENT },
     Repair { name: "a leaked cluster", changes: counted! { (COUNTERS_8, 0x0000_0007_0000_0000) },
-        left: WRITTEN, ..CONSISTENT },
-    Repair { name: "a leaked reference of data", changes: counted! { TWICE }, left: WRITTEN, ..CONSISTENT },
+        ..CONSISTENT },
+    Repair { name: "a leaked reference of data", changes: counted! { TWICE }, ..CONSISTENT },
     Repair { name: "the greatest counter", changes: LARGE_COUNTERS,
         left: counted! {
             (96, 0x0000_0006_0000_0068), (COUNTERS, 1), (COUNTERS + 8, 1), (COUNTERS + 16, 1),
-            (COUNTERS + 24, 1), (COUNTERS + 32, 1), (COUNTERS + 40, 1), BLOCK_END
+            (COUNTERS + 24, 1), (COUNTERS + 32, 1), (COUNTERS + 40, 1)
         }, ..CONSISTENT },
-    Repair { name: "missing data with the flag", changes: counted! { NO_DATA }, left: WRITTEN,
+    Repair { name: "missing data with the flag", changes: counted! { NO_DATA },
         ..CONSISTENT },
-    Repair { name: "missing data, and a late flag", changes: counted! { DATA, NO_DATA }, left: WRITTEN,
+    Repair { name: "missing data, and a late flag", changes: counted! { DATA, NO_DATA },
         ..CONSISTENT },
     Repair { name: "missing clusters of compressed data", changes: counted! { (NEXT_ENTRY, 3 << 61 | 0xc01) },
-        left: counted! { (NEXT_ENTRY, 3 << 61 | 0xc01), TO_7, BLOCK_END }, ..CONSISTENT },
+        left: counted! { (NEXT_ENTRY, 3 << 61 | 0xc01), TO_7 }, ..CONSISTENT },
     Repair { name: "all counters missing", changes: counted! { (COUNTERS, 0), (COUNTERS_4, 0) },
-        left: WRITTEN, ..CONSISTENT },
+        ..CONSISTENT },
     // an empty table may lie anywhere
     Repair { name: "an empty L1 table past the file's end",
         changes: counted! { (24, 0), (32, 0), (40, 0x1_0000) },
         left: counted! {
-            (24, 0), (32, 0), (40, 0x1_0000), (COUNTERS, 0x0001_0000_0000_0001), NO_DATA, BLOCK_END
+            (24, 0), (32, 0), (40, 0x1_0000), (COUNTERS, 0x0001_0000_0000_0001), NO_DATA
         }, ..CONSISTENT },
     // clusters that no block counts stay wrong
     Repair { name: "no block", changes: counted! { TABLE, (REFTABLE, 0) },
@@ -57,17 +52,21 @@ const COUNTS: &[Repair] = rows! {
             leaked 0 missing 5 shared 0 false 1 late 0\n", ..CONSISTENT },
     Repair { name: "data past the last counter and a leaked cluster",
         changes: counted! { (NEXT_ENTRY, 0x2_0000), (COUNTERS_8, 1) },
-        left: counted! { (NEXT_ENTRY, 0x2_0000), BLOCK_END },
-        lines: "missing 256 1 0 1\nleaked 0 missing 1 shared 0 false 0 late 0\n", ..CONSISTENT },
+        left: counted! { (NEXT_ENTRY, 0x2_0000) },
+        lines: "missing 256 1 0 1\npast 256 1 0 1\nleaked 0 missing 1 shared 0 false 0 late 0 past 1\n",
+        ..CONSISTENT },
     // a check counts these in several windows, and the last doesn't begin with cluster 0
     Repair { name: "data far apart, past the last counter", changes: FAR_APART, left: FAR_APART,
         lines: "missing 256 1 0 1\nmissing 4095 2 0 1\nmissing 8192 1 0 1\n\
             missing 2147483648 1 0 1\nmissing 140737488355327 1 0 2\n\
-            leaked 0 missing 6 shared 0 false 0 late 0\n", ..CONSISTENT },
+            past 256 1 0 1\npast 4095 2 0 1\npast 8192 1 0 1\n\
+            past 2147483648 1 0 1\npast 140737488355327 1 0 2\n\
+            leaked 0 missing 6 shared 0 false 0 late 0 past 6\n", ..CONSISTENT },
     Repair { name: "data past the last counter with the flag",
         changes: counted! { (NEXT_ENTRY, COPIED + (300 << 9)) },
         left: counted! { (NEXT_ENTRY, COPIED + (300 << 9)) },
-        lines: "missing 300 1 0 1\nfalse 0x800 300 0\nleaked 0 missing 1 shared 0 false 1 late 0\n",
+        lines: "missing 300 1 0 1\npast 300 1 0 1\nfalse 0x800 300 0\n\
+            leaked 0 missing 1 shared 0 false 1 late 0 past 1\n",
         ..CONSISTENT },
 };
 
@@ -85,14 +84,14 @@ const FLAGS: &[Repair] = rows! {
     Repair { name: "the false flag of a table that two entries name",
         changes: counted! { LARGER, TWO_TABLES, (NEXT_TABLE, L2_TABLE) },
         left: counted! {
-            LARGER, TWO_TABLES, TABLE, (NEXT_TABLE, L2_TABLE), DATA, TABLE_TWICE, TWICE, BLOCK_END
+            LARGER, TWO_TABLES, TABLE, (NEXT_TABLE, L2_TABLE), DATA, TABLE_TWICE, TWICE
         }, ..CONSISTENT },
     Repair { name: "late flags of two tables", changes: LATE_TABLES,
         left: counted! {
             LARGER, TWO_TABLES, (NEXT_TABLE, COPIED + 0xc00), (0xc00 + 504, COPIED + 0xe00), TO_7
         }, ..CONSISTENT },
     Repair { name: "the late flag of data in another file", changes: counted! { EXTERNAL, DATA },
-        left: counted! { EXTERNAL, NO_DATA, BLOCK_END }, ..CONSISTENT },
+        left: counted! { EXTERNAL, NO_DATA }, ..CONSISTENT },
     // a table in the last cluster of a file that ends within it
     Repair { name: "an L2 table that the file's end cuts",
         changes: counted! { LARGER, TWO_TABLES, (NEXT_TABLE, COPIED + 0xc00), (0xc00, 0) },
@@ -125,7 +124,7 @@ const ALL_BITS: Numbers<'static> = counted! {
 };
 
 const ALL_BITS_LEFT: Numbers<'static> = counted! {
-    (72, 8), (96, 0x0000_0004_0000_0070), (104, 1 << 56), BLOCK_END
+    (72, 8), (96, 0x0000_0004_0000_0070), (104, 1 << 56)
 };
 
 const MARKED: &[Repair] = rows! {
@@ -134,24 +133,39 @@ const MARKED: &[Repair] = rows! {
     Repair { name: "marks, and an autoclear feature", changes: counted! { (72, 3), AUTOCLEAR },
         ..CONSISTENT },
     Repair { name: "a dirty image with missing data", changes: counted! { DIRTY, NO_DATA },
-        left: WRITTEN, ..CONSISTENT },
+        ..CONSISTENT },
     Repair { name: "a corrupt image with a false flag",
         changes: counted! { CORRUPT, DATA, (NEXT_ENTRY, COPIED + 0xa00), TWICE },
         left: counted! { DATA, (NEXT_ENTRY, 0xa00), TWICE }, ..CONSISTENT },
     Repair { name: "marks of an image with an external data file",
         changes: counted! { (72, 7), DATA },
-        left: counted! { EXTERNAL, NO_DATA, BLOCK_END }, ..CONSISTENT },
+        left: counted! { EXTERNAL, NO_DATA }, ..CONSISTENT },
     Repair { name: "marks of an image of another compression, with a leak", changes: ALL_BITS,
         left: ALL_BITS_LEFT, ..CONSISTENT },
     // they stay where something stays wrong
     Repair { name: "a dirty image with data past the last counter",
         changes: counted! { DIRTY, (NEXT_ENTRY, 0x2_0000), (COUNTERS_8, 1) },
-        left: counted! { DIRTY, (NEXT_ENTRY, 0x2_0000), BLOCK_END },
-        lines: "missing 256 1 0 1\ndirty\nleaked 0 missing 1 shared 0 false 0 late 0\n", ..CONSISTENT },
+        left: counted! { DIRTY, (NEXT_ENTRY, 0x2_0000) },
+        lines: "missing 256 1 0 1\npast 256 1 0 1\ndirty\n\
+            leaked 0 missing 1 shared 0 false 0 late 0 past 1\n", ..CONSISTENT },
     Repair { name: "a corrupt image without a block", changes: counted! { CORRUPT, TABLE, (REFTABLE, 0) },
         left: counted! { CORRUPT, TABLE, (REFTABLE, 0) },
         lines: "missing 0 4 0 1\nmissing 5 1 0 1\nfalse 0x600 5 0\ncorrupt\n\
             leaked 0 missing 5 shared 0 false 1 late 0\n", ..CONSISTENT },
+    Repair { name: "a corrupt image with data past the file, whose refcount is right",
+        changes: counted! { CORRUPT, (NEXT_ENTRY, COPIED + 0x1400), (COUNTERS_8, 0x0001_0000) },
+        left: counted! { CORRUPT, (NEXT_ENTRY, COPIED + 0x1400), (COUNTERS_8, 0x0001_0000) },
+        lines: "past 10 1 1 1\ncorrupt\nleaked 0 missing 0 shared 0 false 0 late 0 past 1\n",
+        ..CONSISTENT },
+    Repair { name: "a dirty image with data past the file, and a leaked cluster",
+        changes: counted! { DIRTY, TO_6, (NEXT_ENTRY, COPIED + 0x1400), (COUNTERS_8, 0x0001_0000) },
+        left: counted! { DIRTY, (NEXT_ENTRY, COPIED + 0x1400), (COUNTERS_8, 0x0001_0000) },
+        lines: "past 10 1 1 1\ndirty\nleaked 0 missing 0 shared 0 false 0 late 0 past 1\n",
+        ..CONSISTENT },
+    Repair { name: "a dirty image with data in the file's last cluster",
+        changes: counted! { DIRTY, (NEXT_ENTRY, COPIED + 0x1200), (COUNTERS_8, 0x0000_0001_0000_0000) },
+        left: counted! { (NEXT_ENTRY, COPIED + 0x1200), (COUNTERS_8, 0x0000_0001_0000_0000) },
+        ..CONSISTENT },
 };
 
 // Refcounts of one bit, the first six of them 1.

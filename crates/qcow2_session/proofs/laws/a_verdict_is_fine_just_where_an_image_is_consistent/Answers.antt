@@ -2,4 +2,4 @@ use Rattle.qcow2_session.proofs.TotalsLemmas.{consistent-where-fine, fine-where-
 use Rattle.qcow2_session.proofs.laws.a_verdict_is_fine_just_where_an_image_is_consistent.Goals as goal
 
 pub returns : goal.returns
-returns c = λ tables image. (consistent-where-fine tables image, fine-where-consistent tables image)
+returns c = λ file tables image. (consistent-where-fine file tables image, fine-where-consistent file tables image)

@@ -5,6 +5,6 @@ use Rattle.qcow2_session.proofs.HarmLemmas.{no-errors-of-verdict}
 use Rattle.qcow2_session.proofs.laws.an_image_without_harm_reads_as_edits_leave_it.Goals as goal
 
 pub returns : goal.returns
-returns c header edits plan old new is keeps valid for of follows safe =
-    let apart = unshared (tables_by header plan) old (no-errors-of-verdict (tables_by header plan) old safe) in
+returns c header edits plan file old new is keeps valid for of follows safe =
+    let apart = unshared (tables_by header plan) old (no-errors-of-verdict _ (tables_by header plan) old safe) in
     bytes-read-as-left header edits plan old new is keeps valid for of follows apart

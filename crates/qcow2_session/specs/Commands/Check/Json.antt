@@ -52,13 +52,13 @@ object_text name account = codes "{\n" ++ number_line (codes "image-end-offset")
     ++ number_line (codes "total-clusters") account.guest_clusters
     ++ number_line (codes "corruptions") account.corruptions ++ codes "    \"check-errors\": 0,\n"
     ++ number_line (codes "leaks") account.totals.leaked
-    ++ number_line (codes "shared") account.totals.shared
+    ++ number_line (codes "shared") account.totals.shared ++ number_line (codes "past") account.totals.past
     ++ number_line (codes "false-flags") account.totals.false_flags
     ++ number_line (codes "late-flags") account.totals.late_flags
     ++ mark_line (codes "dirty") account.is_dirty ++ mark_line (codes "corrupt") account.is_corrupt
     ++ number_line (codes "allocated-clusters") account.entries.allocated
     ++ file_line name ++ last_lines account.entries.fragmented
 
--- the object of an image with this header, or why it can't be checked
-abbrev pub checked_object : List ℕ → HeaderRecord → Image → Result (List ℕ) Fault
-checked_object name header image = result_map (object_text name) (checked_account header image)
+-- the object of an image with this header and of this length, or why it can't be checked
+abbrev pub checked_object : List ℕ → HeaderRecord → ℕ → Image → Result (List ℕ) Fault
+checked_object name header len image = result_map (object_text name) (checked_account header len image)

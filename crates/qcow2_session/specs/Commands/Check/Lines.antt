@@ -1,5 +1,5 @@
 -- What are the lines of a check?
-use Rattle.std.specs.Prelude.{ℕ, if◌then◌else◌, List, [], ◌++◌, Option, Some, None, codes}
+use Rattle.std.specs.Prelude.{ℕ, ◌==◌, if◌then◌else◌, List, [], ◌++◌, Option, Some, None, codes}
 use Rattle.std.specs.Fmt.{decimal}
 use Rattle.qcow2_check.specs.Findings.{is_leaked, is_missing}
 use Rattle.qcow2_check.specs.L1Length.{is_l1_short, needed_l1_entries}
@@ -26,6 +26,10 @@ run_lines run = (if is_leaked run.first then codes "leaked " ++ run_numbers run 
     ++ (if is_missing run.first then codes "missing " ++ run_numbers run else [])
     ++ (if run.first.shared then codes "shared " ++ run_numbers run else [])
 
+-- the line of a run of used clusters past the end of the image's file
+abbrev pub past_line : FindingRun → List ℕ
+past_line run = codes "past " ++ run_numbers run
+
 -- which entry has a flag
 abbrev pub place_text : FlagPlace → List ℕ
 place_text (L1Index index) = codes "l1 " ++ decimal index
@@ -41,11 +45,15 @@ abbrev pub flag_line : WrongFlag → List ℕ
 flag_line flag = (if flag.is_set then codes "false " else codes "late ") ++ place_text flag.place
     ++ codes " " ++ decimal flag.cluster.0 ++ codes " " ++ counter_text flag.counter ++ codes "\n"
 
+-- how many used clusters past the file's end there are, which is left out where there are none
+abbrev pub past_count : Totals → List ℕ
+past_count totals = if totals.past == 0 then [] else codes " past " ++ decimal totals.past
+
 -- how many clusters and flags of each kind there are
 abbrev pub counts_line : Totals → List ℕ
 counts_line totals = codes "leaked " ++ decimal totals.leaked ++ codes " missing " ++ decimal totals.missing
     ++ codes " shared " ++ decimal totals.shared ++ codes " false " ++ decimal totals.false_flags
-    ++ codes " late " ++ decimal totals.late_flags ++ codes "\n"
+    ++ codes " late " ++ decimal totals.late_flags ++ past_count totals ++ codes "\n"
 
 -- the last line of a check of an image with this header
 abbrev pub totals_line : HeaderRecord → Totals → List ℕ

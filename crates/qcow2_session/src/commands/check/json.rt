@@ -23,6 +23,7 @@ pub(super) fn print_object<O: Write>(file_name: &str, account: &Account, out: &m
     out.print(b"    \"check-errors\": 0,\n");
     print_number("leaks", account.totals.leaked, out);
     print_number("shared", account.totals.shared, out);
+    print_number("past", account.totals.past, out);
     print_number("false-flags", account.totals.false_flags, out);
     print_number("late-flags", account.totals.late_flags, out);
     print_mark("dirty", account.is_dirty, out);

@@ -1,7 +1,7 @@
 //! The lines of a check: runs of findings, wrong flags, and the end.
 
 ghost use Rattle.std.specs.Prelude.{◌≡◌, ◌+◌, ◌≤◌, ◌++◌, codes, length};
-ghost use Rattle.qcow2_session.specs.Commands.Check.Lines.{counter_text, counts_line, end_lines, flag_line, header_lines, place_text, run_lines, run_numbers, totals_line};
+ghost use Rattle.qcow2_session.specs.Commands.Check.Lines.{counter_text, counts_line, end_lines, flag_line, header_lines, past_count, past_line, place_text, run_lines, run_numbers, totals_line};
 
 use super::runs::FindingRun;
 use crate::lines::{LineBuffer, ToLine};
@@ -27,6 +27,15 @@ impl ToLine for FindingRun {
             line.prepend("leaked ");
         }
     }
+}
+
+/// Replaces a line by that of clusters past the end of the image's file that have references.
+pub(super) fn put_past(run: &FindingRun, line: &mut LineBuffer)
+    ensures { line.new ≡ past_line run.now }
+{
+    line.clear();
+    prepend_numbers(line, run);
+    line.prepend("past ");
 }
 
 // Puts the numbers of a run in front of a line.
@@ -100,7 +109,7 @@ pub(super) fn end_lines(totals: &Totals, header: &Header) -> LineBuffer
 // Puts the lines of what a header says in front of others: that the image is marked dirty or corrupt, and an
 // L1 table too short for the disk.
 fn prepend_header_lines(lines: &mut LineBuffer, header: &Header)
-    requires { length lines.old ≤ 150 }
+    requires { length lines.old ≤ 165 }
     ensures { lines.new ≡ header_lines header.now ++ lines.old }
 {
     if is_l1_short(header) {
@@ -121,7 +130,7 @@ fn prepend_header_lines(lines: &mut LineBuffer, header: &Header)
 // The last line of a check.
 fn totals_line(totals: &Totals, header: &Header) -> LineBuffer
     ensures text { result ≡ totals_line header.now totals.now }
-    ensures bound { length result ≤ 150 }
+    ensures bound { length result ≤ 165 }
 {
     match totals.verdict(header) {
         Verdict::Fine => consistent_line(),
@@ -130,13 +139,26 @@ fn totals_line(totals: &Totals, header: &Header) -> LineBuffer
     }
 }
 
-// The number of clusters and flags of each kind.
-fn counts_line(totals: &Totals) -> LineBuffer
-    ensures text { result ≡ counts_line totals.now }
-    ensures bound { length result ≤ 150 }
+// The end of a line with the number of clusters past the end of the image's file, if there are any.
+fn past_count(totals: &Totals) -> LineBuffer
+    ensures text { result ≡ past_count totals.now ++ codes "\n" }
+    ensures bound { length result ≤ 27 }
 {
     let mut line = LineBuffer::new();
     line.prepend("\n");
+    if totals.past != 0 {
+        line.prepend_decimal(totals.past);
+        line.prepend(" past ");
+    }
+    line
+}
+
+// The number of clusters and flags of each kind.
+fn counts_line(totals: &Totals) -> LineBuffer
+    ensures text { result ≡ counts_line totals.now }
+    ensures bound { length result ≤ 165 }
+{
+    let mut line = past_count(totals);
     line.prepend_decimal(totals.late_flags);
     line.prepend(" late ");
     line.prepend_decimal(totals.false_flags);

@@ -23,7 +23,7 @@ returns-in_err-tally-clause-reads g c =
     (g.S.Storage.state c.load.new.image) c.in_ok-l1_table.ensures.reads (search rules) in
     rw (exit.1, exit.2) (refused_tables tables_of c.args.header.now c.in_err-tally.field-0.0
     (g.S.Storage.state c.args.image.now) (g.S.Storage.state c.load.new.image) (g.S.Storage.state c.count_and_mark.new.image)
-    opened (search rules))
+    opened c.in_err-tally.ensures.reads)
 
 pub returns-clause-reader : goal.returns-clause-reader
 returns-clause-reader g c = λ told.

@@ -18,7 +18,7 @@ returns-in_err-l1_table-clause-reads g c =
 pub returns-in_err-window-clause-reads : goal.returns-in_err-window-clause-reads
 returns-in_err-window-clause-reads g c =
     let exit = err_from_is_err_and c.from_residual-in_err-window.result c.from_residual-in_err-window.ensures.1 in
-    rw (exit.1, exit.2) (refused_tables layout_tables c.args.header.now c.in_err-window.field-0.0
+    rw (exit.1, exit.2) (refused_tables {A = Unit {0}} layout_tables c.args.header.now c.in_err-window.field-0.0
     (g.S.Storage.state c.args.image.now) (g.S.Storage.state c.open_tables.new.image) (g.S.Storage.state c.place.new.image)
     c.in_ok-l1_table.ensures.reads (search rules))
 

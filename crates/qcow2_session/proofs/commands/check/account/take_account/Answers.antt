@@ -1,7 +1,8 @@
 use Rattle.std.proofs.Common.{◌∙◌, ap, arith, rules}
 use Rattle.std.proofs.lemmas.Result.{err_from_is_err_and}
 use Rattle.qcow2_check.specs.Findings.{tables_of}
-use Rattle.qcow2_check.specs.Totals.{totals_on}
+use Rattle.qcow2_check.specs.FileEnd.{file_clusters}
+use Rattle.qcow2_check.specs.Totals.{totals_within}
 use Rattle.qcow2_summary.specs.ImageEnd.{image_end}
 use Rattle.qcow2_session.proofs.AccountLemmas.{account-is}
 use Rattle.qcow2_session.proofs.commands.check.account.take_account.Goals as goal
@@ -23,7 +24,9 @@ returns-clause-exact g c = λ told.
     let tables = checked.exact told in
     let found = c.in_ok-totals.ensures.found (checked.storage.device.tells ∙ told) in
     let counted_tables = tables_of c.in_ok-findings.findings in
-    let totals = found.0 ∙ ap (λ bytes. totals_on counted_tables bytes) checked.storage.bytes in
+    let state = g.S.Storage.state c.args.image.now in
+    let totals = found.0 ∙ ap (λ len. totals_within (file_clusters len c.args.header.now) counted_tables (g.S.Storage.state c.new.new.image).byte_at) checked.storage.len
+    ∙ ap (λ bytes. totals_within (file_clusters state.len c.args.header.now) counted_tables bytes) checked.storage.bytes in
     let end = found.1 ∙ ap (λ bytes. image_end counted_tables bytes) checked.storage.bytes in
     let entries = rw (counted.bytes ∙ checked.storage.bytes) at (c.in_ok-entries.ensures.exact (counted.device.tells ∙ checked.storage.device.tells ∙ told)) in
-    account-is c.args.header.now (g.S.Storage.state c.args.image.now).byte_at counted_tables _ tables totals (search rules) end (search rules) (search rules) (search rules) entries
+    account-is c.args.header.now state.len state.byte_at counted_tables _ tables totals (search rules) end (search rules) (search rules) (search rules) entries
