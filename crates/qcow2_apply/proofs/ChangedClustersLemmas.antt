@@ -1,4 +1,4 @@
-use Rattle.std.proofs.Common.{◌≡◌, ℕ, Bool, true, false, not, ◌==◌, ◌&&◌, ◌+◌, ◌-◌, ◌*◌, ◌/◌, ◌%◌, ◌<◌, ◌≤◌, nat_lt, min, Result, Ok, Err, IsOkUnless, OnOk, List, [], length, slice_index, None, Some, is_some, ap, subst, sym, inl, inr, ◌∙◌, mod-lt, div-add-mod', div-lt_iff_lt-mul, arith}
+use Rattle.std.proofs.Common.{◌≡◌, ℕ, Bool, true, false, not, ◌==◌, ◌&&◌, ◌+◌, ◌-◌, ◌*◌, ◌/◌, ◌%◌, ◌^◌, ◌<◌, ◌≤◌, nat_lt, min, pow-add, Result, Ok, Err, IsOkUnless, OnOk, List, [], length, slice_index, None, Some, is_some, ap, subst, sym, inl, inr, ◌∙◌, mod-lt, div-add-mod', div-lt_iff_lt-mul, arith}
 use Rattle.std.proofs.lemmas.Bool.{cases_Bool, cases_eq, cases_lt}
 use Rattle.std.proofs.lemmas.Bool.Decides.{nat_tests}
 use Rattle.std.proofs.lemmas.Nat.{div-mul-add, pow_pos}
@@ -10,6 +10,7 @@ use Rattle.qcow2_base.specs.declared.types.HostCluster.{HostCluster}
 use Rattle.qcow2_edits.specs.Edits.{cluster_numbers}
 use Rattle.qcow2_edits.specs.Settled.{is_between}
 use Rattle.qcow2_metadata.proofs.PackingLemmas.{counters_at-length}
+use Rattle.qcow2_metadata.specs.Refblock.{block_entries}
 use Rattle.qcow2_metadata.specs.Table.L2Guards.{handed_back, one_if, times_gained}
 use Rattle.qcow2_check.proofs.CountersLemmas.{ends, within_blocks}
 use Rattle.qcow2_check.specs.Counters.{block_of_cluster, counters_each}
@@ -52,12 +53,59 @@ lists-none first before risen after a = record {
   gained_is = λ c. omega (arith, none-yet first c (not (slice_index risen (c - first) == slice_index before (c - first))));
 }
 
--- the same by equal numbers
-pub lists-by : (cluster b r a other b' r' a' : ℕ) (old new : ChangedClusters) → cluster ≡ other → b ≡ b' → r ≡ r' → a ≡ a' → ListsCounter cluster b r a old new
-    → ListsCounter other b' r' a' old new
-lists-by cluster b r a other b' r' a' old new same before risen after lists =
-    subst (λ n. ListsCounter n b' r' a' old new) same (subst (λ n. ListsCounter cluster n r' a' old new) before
-    (subst (λ n. ListsCounter cluster b n a' old new) risen (subst (λ n. ListsCounter cluster b r n old new) after lists)))
+-- some more in a row, whatever they are picked by
+more-picked : (first k n c : ℕ) (picks part : ℕ → Bool) → ((i : ℕ) → i < n → part i ≡ picks (k + i))
+    → one_if (is_between first (first + k) c && picks (c - first)) + one_if (is_between (first + k) (first + k + n) c && part (c - (first + k)))
+    ≡ one_if (is_between first (first + (k + n)) c && picks (c - first))
+more-picked first k n c picks part same = elim (cases_Bool (is_between (first + k) (first + k + n) c)) [
+  | inl within ↦
+      let from : first + k ≤ c = grind (arith, nat_tests, within) in
+      let before : c < first + k + n = grind (arith, nat_tests, within) in
+      let at : k + (c - (first + k)) ≡ c - first = omega (arith, from) in
+      let picked : part (c - (first + k)) ≡ picks (c - first) = same (c - (first + k)) (omega (arith, from, before)) ∙ ap picks at in
+      grind (arith, nat_tests, from, before, picked)
+  | inr outside ↦ grind (arith, nat_tests, outside)
+]
+
+-- numbers are those of a list from an index on
+abbrev pub IsPart : List ℕ → ℕ → ℕ → List ℕ → Type 0
+IsPart part n k list = (i : ℕ) → i < n → slice_index part i ≡ slice_index list (k + i)
+
+-- so clusters in a row are listed after others, by counters that are a part of those of a block
+pub lists-on : (first k n : ℕ) (before risen after before' risen' after' : List ℕ) (a b d : ChangedClusters) → ListsCounters first k before risen after a b
+    → IsPart before' n k before → IsPart risen' n k risen → IsPart after' n k after → ListsCounters (first + k) n before' risen' after' b d
+    → ListsCounters first (k + n) before risen after a d
+lists-on first k n before risen after before' risen' after' a b d one same_b same_r same_a other = record {
+  freed_is = λ c. omega (
+    arith,
+    one.freed_is c,
+    other.freed_is c,
+    more-picked first k n c (λ i. is_freed (slice_index risen i) (slice_index after i))
+        (λ i. is_freed (slice_index risen' i) (slice_index after' i)) (λ i below. grind (arith, same_r i below, same_a i below)),
+  );
+  kept_is = λ m c. omega (
+    arith,
+    one.kept_is m c,
+    other.kept_is m c,
+    more-picked first k n c (λ i. is_kept_at m (slice_index risen i) (slice_index after i))
+        (λ i. is_kept_at m (slice_index risen' i) (slice_index after' i)) (λ i below. grind (arith, same_r i below, same_a i below)),
+  );
+  gained_is = λ c. omega (
+    arith,
+    one.gained_is c,
+    other.gained_is c,
+    more-picked first k n c (λ i. not (slice_index risen i == slice_index before i))
+        (λ i. not (slice_index risen' i == slice_index before' i)) (λ i below. grind (arith, same_r i below, same_b i below)),
+  );
+}
+
+-- a block counts whole groups of 64 clusters
+pub whole-groups : (cb order : ℕ) → 9 ≤ cb → order ≤ 6 → 64 * (block_entries cb order / 64) ≡ block_entries cb order
+whole-groups cb order bits orders =
+    let m = cb + 3 - order - 6 in
+    let sum : 6 + m ≡ cb + 3 - order = omega (arith, bits, orders) in
+    let whole : 2 ^ (cb + 3 - order) ≡ 64 * 2 ^ m = ap (λ n. 2 ^ n) (sym sum) ∙ pow-add 2 6 m in
+    omega (arith, whole)
 
 -- a cluster of a block is picked by its counter, whether by its place in the block or by its number
 picked-by : (tables : CounterTablesState) (gains losses : Changes) (i : ℕ) (block : HostCluster) (image : Image) (risen mid after : List ℕ) (c : ℕ)

@@ -163,6 +163,16 @@ ends-freed range a b one fits more kept gained before = record {
   gained = subst (λ list. AscendTo (range.first.0 + 1) (cluster_numbers list)) (sym gained) before.gained;
 }
 
+-- clusters in a row that are free
+pub ends-freed-row : (range : ClustersToFreeEntry) (a b : ChangedClusters) → 0 < range.count.0 → range.first.0 + range.count.0 < 2 ^ 64
+    → AppendsInOrder range a.freed.items b.freed.items → b.kept.items ≡ a.kept.items → b.gained.items ≡ a.gained.items → EndInOrder range.first.0 a
+    → EndInOrder (range.first.0 + range.count.0) b
+ends-freed-row range a b some fits more kept gained before = record {
+  freed = more some fits before.freed;
+  kept = subst (λ list. AscendTo (range.first.0 + range.count.0) (kept_clusters list)) (sym kept) (ascend-later _ _ _ before.kept (omega arith));
+  gained = subst (λ list. AscendTo (range.first.0 + range.count.0) (cluster_numbers list)) (sym gained) (ascend-later _ _ _ before.gained (omega arith));
+}
+
 -- lists that end by a cluster end by any later one, and are in order
 pub end-later : (c d : ℕ) (a : ChangedClusters) → c ≤ d → StayInOrder c d a a
 end-later c d a later before = record {

@@ -1,5 +1,5 @@
 -- What becomes of the clusters that edits of a disk give references, or take them from?
-use Rattle.std.specs.Prelude.{◌≡◌, ◌/◌, ◌<◌, nat_lt, is_some, ℕ, Bool, not, ◌&&◌, ◌==◌, ◌+◌, ◌-◌, ◌^◌, List, [], ◌∷◌, ◌++◌, length, map, slice_index}
+use Rattle.std.specs.Prelude.{◌≡◌, ◌/◌, ◌<◌, nat_lt, is_some, ℕ, Bool, false, not, ◌&&◌, ◌==◌, ◌+◌, ◌-◌, ◌^◌, List, [], ◌∷◌, ◌++◌, length, map, slice_index}
 use Rattle.std.specs.List.{flat_map, sum_by}
 use Rattle.std.specs.List.Sorted.{IsStrictlyIncreasing}
 use Rattle.qcow2_base.specs.Format.{max_file_length}
@@ -43,6 +43,10 @@ ListsCounters first count before risen after = ListsMore
     (λ c. is_between first (first + count) c && is_freed (slice_index risen (c - first)) (slice_index after (c - first)))
     (λ n c. is_between first (first + count) c && is_kept_at n (slice_index risen (c - first)) (slice_index after (c - first)))
     (λ c. is_between first (first + count) c && not (slice_index risen (c - first) == slice_index before (c - first)))
+
+-- the clusters from one to before another were, as freed
+abbrev pub ListsFreed : ℕ → ℕ → ChangedClusters → ChangedClusters → Type 0
+ListsFreed first end = ListsMore (is_between first end) (λ n c. false) (λ c. false)
 
 -- the bounds of ranges of clusters: of each the first cluster, and the one after the last
 abbrev pub bounds_of : List ClustersToFreeEntry → List ℕ

@@ -1,6 +1,6 @@
 //! The effect of edits on the clusters that gain or lose references.
 
-ghost use Rattle.std.specs.Prelude.{◌≡◌, ◌⊎◌, ℕ, ◌+◌, ◌*◌, ◌^◌, ◌≤◌, ◌<◌, IfErr, IfOk, IsOkUnless, None, OnOk, false, length};
+ghost use Rattle.std.specs.Prelude.{◌≡◌, ◌⊎◌, ℕ, ◌+◌, ◌*◌, ◌^◌, ◌≤◌, ◌<◌, IfErr, IfOk, IsOkUnless, IsTrue, None, OnOk, false, length, slice_index};
 ghost use Rattle.qcow2_base.specs.Storage.{OnImage, OnlyReads};
 ghost use Rattle.qcow2_metadata.specs.Header.{uses_external_data};
 ghost use Rattle.qcow2_base.specs.Format.{max_file_length};
@@ -9,7 +9,7 @@ ghost use Rattle.qcow2_metadata.specs.Results.{IsFromOutside};
 ghost use Rattle.qcow2_apply.specs.PlannedChanges.{AreSorted, CannotCount};
 ghost use Rattle.qcow2_apply.specs.CounterTables.{IsBlockOf, NamesBlock, block_numbers};
 ghost use Rattle.qcow2_base.specs.declared.fault.Fault.TheVariants.{CounterRange, NoMemory};
-ghost use Rattle.qcow2_apply.specs.ChangedClusters.{HaveSameCount, ListsBlock, ListsChanges, ListsCounter, ListsCounters, StayInOrder};
+ghost use Rattle.qcow2_apply.specs.ChangedClusters.{HaveSameCount, ListsBlock, ListsChanges, ListsCounter, ListsCounters, ListsFreed, StayInOrder};
 
 use crate::changes::{Changes, push_clusters};
 use crate::counter_tables::{CounterTables, load_followed, load_left};
@@ -17,6 +17,9 @@ use qcow2_base::{ClusterCount, Fault, HostCluster, MAX_FILE_LENGTH, Storage};
 use qcow2_check::named_block;
 use qcow2_metadata::{ClustersToFreeEntry, Header, RefBlock, Table};
 use std::alloc::Global;
+
+// The number of clusters that are listed as one group.
+const TOGETHER: usize = 64;
 
 /// A cluster that loses a reference and still has others, and its refcount after that.
 #[derive(Clone, Copy, Debug, PartialEq, Eq)]
@@ -73,6 +76,105 @@ fn list_cluster(
     )
 }
 
+// `TOGETHER` refcounts of a block, from an index on.
+fn counters_from(block: &RefBlock, index: usize) -> [u64; TOGETHER]
+    requires { index + 64 ≤ length block.now.numbers }
+    ensures { (k : ℕ) → k < 64 → slice_index result k ≡ slice_index block.now.numbers (index + k) }
+{
+    prove!(index < block.entries());
+    let mut counters = [0; TOGETHER];
+    for k in 0..TOGETHER {
+        counters[k] = block.get(index + k);
+    }
+    counters
+}
+
+// Whether two groups have the same refcounts. Tests each, so that the compiler can compare several at once.
+fn are_same(before: &[u64; TOGETHER], after: &[u64; TOGETHER]) -> bool
+    ensures { IsTrue result → (k : ℕ) → k < 64 → slice_index after.now k ≡ slice_index before.now k }
+{
+    let mut same = true;
+    for k in 0..TOGETHER {
+        same &= after[k] == before[k];
+    }
+    same
+}
+
+// Whether all refcounts of a group were lowered to 0. Tests each, as `are_same` does.
+fn are_freed(risen: &[u64; TOGETHER], after: &[u64; TOGETHER]) -> bool
+    ensures { IsTrue result → (k : ℕ) → k < 64 →
+        (0 < slice_index risen.now k) × (slice_index after.now k ≡ 0) }
+{
+    let mut freed = true;
+    for k in 0..TOGETHER {
+        freed &= (risen[k] > 0) & (after[k] == 0);
+    }
+    freed
+}
+
+// Adds the clusters of a group to the lists, one by one. `first` is the first of them.
+fn list_each(
+    clusters: &mut ChangedClusters,
+    first: u64,
+    before: &[u64; TOGETHER],
+    risen: &[u64; TOGETHER],
+    after: &[u64; TOGETHER],
+) -> Result<(), Fault>
+    requires fits { first + 64 < 2 ^ 64 }
+    ensures listed { OnOk result
+        (ListsCounters first 64 before.now risen.now after.now clusters.old clusters.new) }
+    ensures order { OnOk result (StayInOrder first (first + 64) clusters.old clusters.new) }
+    ensures fault { IsOkUnless result NoMemory }
+{
+    for k in 0..TOGETHER {
+        let cluster = HostCluster(first + k as u64);
+        list_cluster(clusters, cluster, before[k], risen[k], after[k])?;
+    }
+    Ok(())
+}
+
+// Adds `TOGETHER` clusters that are freed to the lists. `first` is the first of them.
+fn push_freed(clusters: &mut ChangedClusters, first: u64) -> Result<(), Fault>
+    requires fits { first + 64 < 2 ^ 64 }
+    ensures listed { OnOk result (ListsFreed first (first + 64) clusters.old clusters.new) }
+    ensures order { OnOk result (StayInOrder first (first + 64) clusters.old clusters.new) }
+    ensures fault { IsOkUnless result NoMemory }
+{
+    push_clusters(
+        &mut clusters.freed,
+        ClustersToFreeEntry {
+            first: HostCluster(first),
+            count: ClusterCount(TOGETHER as u64),
+        },
+    )
+}
+
+// Adds the clusters of a group to the lists as `list_each` does, but at once if all stay or all are freed.
+fn list_group(
+    clusters: &mut ChangedClusters,
+    first: u64,
+    before: &[u64; TOGETHER],
+    risen: &[u64; TOGETHER],
+    after: &[u64; TOGETHER],
+) -> Result<(), Fault>
+    requires fits { first + 64 < 2 ^ 64 }
+    ensures listed { OnOk result
+        (ListsCounters first 64 before.now risen.now after.now clusters.old clusters.new) }
+    ensures order { OnOk result (StayInOrder first (first + 64) clusters.old clusters.new) }
+    ensures fault { IsOkUnless result NoMemory }
+{
+    if !are_same(before, risen) {
+        return list_each(clusters, first, before, risen, after);
+    }
+    if are_same(risen, after) {
+        return Ok(());
+    }
+    if are_freed(risen, after) {
+        return push_freed(clusters, first);
+    }
+    list_each(clusters, first, before, risen, after)
+}
+
 // Adds the clusters of a block to the lists, by their refcounts. `first` is the block's first cluster.
 fn list_block(
     clusters: &mut ChangedClusters,
@@ -89,11 +191,18 @@ fn list_block(
         (StayInOrder first (first + length before.now.numbers) clusters.old clusters.new) }
     ensures fault { IsOkUnless result NoMemory }
 {
-    for k in 0..before.entries() {
-        let cluster = HostCluster(first + k as u64);
-        prove!(k < risen.entries());
-        prove!(k < after.entries());
-        list_cluster(clusters, cluster, before.get(k), risen.get(k), after.get(k))?;
+    prove!(before.cluster_bits() >= 9);
+    prove!(before.refcount_order() <= 6);
+    // A block has whole groups.
+    for group in 0..before.entries() / TOGETHER {
+        let index = TOGETHER * group;
+        list_group(
+            clusters,
+            first + index as u64,
+            &counters_from(before, index),
+            &counters_from(risen, index),
+            &counters_from(after, index),
+        )?;
     }
     Ok(())
 }
