@@ -1,4 +1,4 @@
-use Rattle.std.proofs.Common.{◌≡◌, ◌⊎◌, ℕ, ◌+◌, ◌-◌, ◌*◌, ◌/◌, ◌%◌, ◌^◌, ◌<◌, ◌≤◌, List, length, slice_index, IsSome, true, inl, inr, subst, sym, mod-lt, div-add-mod', arith}
+use Rattle.std.proofs.Common.{◌≡◌, ℕ, ◌+◌, ◌-◌, ◌*◌, ◌/◌, ◌%◌, ◌^◌, ◌<◌, ◌≤◌, List, length, slice_index, Option, IsSome, true, inl, inr, subst, sym, mod-lt, div-add-mod', arith}
 use Rattle.std.proofs.lemmas.Bool.Decides.{nat_tests}
 use Rattle.std.proofs.lemmas.Bool.{cases_lt}
 use Rattle.std.proofs.lemmas.List.{get_or_past}
@@ -16,7 +16,7 @@ use Rattle.qcow2_metadata.specs.Refblock.{BlockGeometry, BlockState, IsValidBloc
 use Rattle.qcow2_metadata.specs.declared.entries.ClustersToFreeEntry.{ClustersToFreeEntry}
 use Rattle.qcow2_apply.proofs.CounterTablesLemmas.{block-of, counter-at, names-below}
 use Rattle.qcow2_apply.specs.CounterTables.{BlockFollows, BlockIsStuck, CounterTablesState, NamesBlock, block_numbers}
-use Rattle.qcow2_apply.specs.PlannedChanges.{AreSorted, CannotCount, HaveCounters, IsUncounted}
+use Rattle.qcow2_apply.specs.PlannedChanges.{AreSorted, CanCount, CannotCount, HaveCounters, IsUncounted}
 use Rattle.qcow2_apply.specs.declared.changes.Changes.{Changes}
 
 -- clusters that end past 2^64 have a last number that 64 bits don't count
@@ -24,22 +24,22 @@ pub late-end : (header : HeaderRecord) (reftable : List ℕ) (clusters : Cluster
     → 2 ^ 64 ≤ clusters.first.0 + clusters.count.0 → (c : ℕ) × (is_among clusters c ≡ true) × IsUncounted header reftable c
 late-end header reftable clusters fits late = (2 ^ 64 - 1, grind (arith, nat_tests, fits, late), inr (omega arith))
 
--- one more cluster has a counter
-pub next-counted : (header : HeaderRecord) (reftable : List ℕ) (first cluster : ℕ)
-    → ((c : ℕ) → first ≤ c → c < cluster → IsSome (block_of_cluster header reftable c)) → IsSome (block_of_cluster header reftable cluster)
-    → (c : ℕ) → first ≤ c → c < cluster + 1 → IsSome (block_of_cluster header reftable c)
-next-counted header reftable first cluster each here c from before = elim (cases_lt c cluster) [
-  | inl less ↦ each c from less
-  | inr more ↦ let same : cluster ≡ c = omega (arith, more, before) in subst (λ n. IsSome (block_of_cluster header reftable n)) same here
+-- the clusters of one more block have counters
+pub block-counted : (header : HeaderRecord) (reftable : List ℕ) (start last end limit : ℕ) → end ≡ last + 1
+    → ((c : ℕ) → start ≤ c → c ≤ last → block_of_cluster header reftable c ≡ block_of_cluster header reftable last)
+    → IsSome (block_of_cluster header reftable last) → ((c : ℕ) → end ≤ c → c < limit → IsSome (block_of_cluster header reftable c))
+    → (c : ℕ) → start ≤ c → c < limit → IsSome (block_of_cluster header reftable c)
+block-counted header reftable start last end limit is same here each c from before = elim (cases_lt last c) [
+  | inl more ↦ each c (omega (arith, is, more)) before
+  | inr less ↦ subst (λ (block : Option HostCluster). IsSome block) (sym (same c from less)) here
 ]
 
 -- and all do
-pub all-counted : (header : HeaderRecord) (reftable : List ℕ) (clusters : ClustersToFreeEntry) (cluster end : ℕ) → end ≡ clusters.first.0 + clusters.count.0
-    → end < 2 ^ 64 → end ≤ cluster → (cluster ≤ end) ⊎ (cluster ≡ clusters.first.0)
-    → ((c : ℕ) → clusters.first.0 ≤ c → c < cluster → IsSome (block_of_cluster header reftable c)) → HaveCounters header reftable clusters
-all-counted header reftable clusters cluster end is fits past within each = record {
+pub all-counted : (header : HeaderRecord) (reftable : List ℕ) (clusters : ClustersToFreeEntry) (end limit : ℕ) → limit ≡ clusters.first.0 + clusters.count.0
+    → limit < 2 ^ 64 → end ≤ clusters.first.0 → ((c : ℕ) → end ≤ c → c < limit → IsSome (block_of_cluster header reftable c)) → HaveCounters header reftable clusters
+all-counted header reftable clusters end limit is fits past each = record {
   each = λ c among. let bounds : (clusters.first.0 ≤ c) × (c < clusters.first.0 + clusters.count.0) = grind (arith, nat_tests, among) in
-      each c bounds.0 (omega (arith, bounds.1, is, past));
+      each c (omega (arith, bounds.0, past)) (omega (arith, bounds.1, is));
   end = omega (arith, is, fits);
 }
 
@@ -126,19 +126,20 @@ all-count tables gains losses i block image mid new sorted names gained fits los
     (subst (λ x. CannotCount tables gains losses image x) (sym whole) cannot)
 
 -- the counters of one more block can count the changes
-pub counts-next : (tables : CounterTablesState) (gains losses : Changes) (i : ℕ) (image : Image)
-    → ((c : ℕ) → c / counters_each tables.header < i → CannotCount tables gains losses image c → ⊥)
-    → ((c : ℕ) → c / counters_each tables.header ≡ i → CannotCount tables gains losses image c → ⊥)
-    → (c : ℕ) → c / counters_each tables.header < i + 1 → CannotCount tables gains losses image c → ⊥
-counts-next tables gains losses i image before here c below = elim (cases_lt (c / counters_each tables.header) i) [
-  | inl less ↦ before c less
+pub counts-next : (tables : CounterTablesState) (gains losses : Changes) (from i : ℕ) (image : Image) → CanCount tables gains losses from i image
+    → ((c : ℕ) → c / counters_each tables.header ≡ i → CannotCount tables gains losses image c → ⊥) → CanCount tables gains losses from (i + 1) image
+counts-next tables gains losses from i image before here c later below = elim (cases_lt (c / counters_each tables.header) i) [
+  | inl less ↦ before c later less
   | inr more ↦ here c (omega (arith, more, below))
 ]
 
 -- and all can, where the blocks of the whole refcount table can
-pub none-past : (tables : CounterTablesState) (gains losses : Changes) (i : ℕ) (image : Image) → length tables.reftable ≤ i
-    → ((c : ℕ) → c / counters_each tables.header < i → CannotCount tables gains losses image c → ⊥)
-    → (c : ℕ) → CannotCount tables gains losses image c → ⊥
-none-past tables gains losses i image past before c cannot =
+pub all-can : (tables : CounterTablesState) (gains losses : Changes) (i : ℕ) (image : Image) → CanCount tables gains losses 0 i image
+    → CanCount tables gains losses i (length tables.reftable) image → (c : ℕ) → CannotCount tables gains losses image c → ⊥
+all-can tables gains losses i image before rest c cannot =
     let found = block-of tables c cannot.0 in
-    before c (omega (arith, past, names-below tables (c / counters_each tables.header) found.0 found.1)) cannot
+    let below = names-below tables (c / counters_each tables.header) found.0 found.1 in
+    elim (cases_lt (c / counters_each tables.header) i) [
+      | inl less ↦ before c (omega arith) less cannot
+      | inr more ↦ rest c more below cannot
+    ]

@@ -1,5 +1,5 @@
 -- What becomes of the clusters that edits of a disk give references, or take them from?
-use Rattle.std.specs.Prelude.{◌≡◌, ◌/◌, ◌<◌, nat_lt, is_some, ℕ, Bool, false, not, ◌&&◌, ◌==◌, ◌+◌, ◌-◌, ◌^◌, List, [], ◌∷◌, ◌++◌, length, map, slice_index}
+use Rattle.std.specs.Prelude.{◌≡◌, ◌/◌, ◌<◌, nat_lt, is_some, ℕ, Bool, false, not, ◌&&◌, ◌==◌, ◌+◌, ◌-◌, ◌^◌, List, [], ◌∷◌, ◌++◌, length, map, min, slice_index}
 use Rattle.std.specs.List.{flat_map, sum_by}
 use Rattle.std.specs.List.Sorted.{IsStrictlyIncreasing}
 use Rattle.qcow2_base.specs.Format.{max_file_length}
@@ -122,6 +122,10 @@ pub record HasListed (tables : CounterTablesState) (gains losses : Changes) (end
       ≡ one_if ((nat_lt (c / counters_each tables.header) end && has_counter tables c) && stays_at tables gains losses image n c)
   pub gained_is : (c : ℕ) → times_gained (cluster_numbers clusters.gained.items) c
       ≡ one_if ((nat_lt (c / counters_each tables.header) end && has_counter tables c) && gains_some tables gains image c)
+
+-- how many entries of the refcount table are for clusters below 2^56
+abbrev pub listed_blocks : CounterTablesState → ℕ
+listed_blocks tables = min (length tables.reftable) (max_file_length / counters_each tables.header)
 
 -- whether cluster c is one of those that may be listed: it is below 2^56, and has a counter
 abbrev pub is_listable : CounterTablesState → ℕ → Bool

@@ -1,11 +1,11 @@
 -- What do edits do to counters, and when can't these count it?
 
-use Rattle.std.specs.Prelude.{◌≡◌, ◌⊎◌, ℕ, true, false, ◌+◌, ◌^◌, ◌<◌, ◌≤◌, List, slice_index, IsSome, None}
+use Rattle.std.specs.Prelude.{◌≡◌, ◌⊎◌, ℕ, true, false, ◌+◌, ◌/◌, ◌^◌, ◌<◌, ◌≤◌, List, slice_index, IsSome, None}
 use Rattle.qcow2_base.specs.Storage.{Image}
 use Rattle.qcow2_metadata.specs.Header.{HeaderRecord}
 use Rattle.qcow2_metadata.specs.Refblock.{greatest_counter}
 use Rattle.qcow2_metadata.specs.Table.L2Guards.{handed_back, times_gained}
-use Rattle.qcow2_check.specs.Counters.{block_of_cluster}
+use Rattle.qcow2_check.specs.Counters.{block_of_cluster, counters_each}
 use Rattle.qcow2_apply.specs.CounterTables.{BlockFollows, CounterTablesState, HasCounter, counter_of_cluster}
 use Rattle.qcow2_apply.specs.Changes.{AddsChanges, gains_of, losses_of}
 use Rattle.qcow2_apply.specs.declared.changes.Changes.{Changes}
@@ -54,6 +54,11 @@ abbrev pub CannotCount : CounterTablesState → Changes → Changes → Image �
 CannotCount tables gains losses image c = let counter = counter_of_cluster tables image c + gains_of gains c in
     HasCounter tables c × (((0 < gains_of gains c) × (greatest_counter tables.header.base.refcount_order < counter))
     ⊎ (counter < losses_of losses c))
+
+-- the counters of the blocks from an index to before another can count it
+abbrev pub CanCount : CounterTablesState → Changes → Changes → ℕ → ℕ → Image → Type 0
+CanCount tables gains losses from end image =
+    (c : ℕ) → from ≤ c / counters_each tables.header → c / counters_each tables.header < end → CannotCount tables gains losses image c → ⊥
 
 -- the counters of the block at an index followed gains, and then losses, with none too great in between
 pub record BlockIsLeft (tables : CounterTablesState) (gains losses : Changes) (index : ℕ) (old new : List ℕ) : Type 0 where

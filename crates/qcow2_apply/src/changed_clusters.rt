@@ -1,15 +1,15 @@
 //! The effect of edits on the clusters that gain or lose references.
 
-ghost use Rattle.std.specs.Prelude.{◌≡◌, ◌⊎◌, ℕ, ◌+◌, ◌*◌, ◌^◌, ◌≤◌, ◌<◌, IfErr, IfOk, IsOkUnless, IsTrue, None, OnOk, false, length, slice_index};
+ghost use Rattle.std.specs.Prelude.{◌≡◌, ◌⊎◌, ℕ, ◌+◌, ◌*◌, ◌/◌, ◌^◌, ◌≤◌, ◌<◌, IfErr, IfOk, IsOkUnless, IsTrue, None, OnOk, false, length, slice_index};
 ghost use Rattle.qcow2_base.specs.Storage.{OnImage, OnlyReads};
 ghost use Rattle.qcow2_metadata.specs.Header.{uses_external_data};
 ghost use Rattle.qcow2_base.specs.Format.{max_file_length};
 ghost use Rattle.qcow2_check.specs.Counters.{counters_each};
 ghost use Rattle.qcow2_metadata.specs.Results.{IsFromOutside};
-ghost use Rattle.qcow2_apply.specs.PlannedChanges.{AreSorted, CannotCount};
+ghost use Rattle.qcow2_apply.specs.PlannedChanges.{AreSorted, CannotCount, CanCount};
 ghost use Rattle.qcow2_apply.specs.CounterTables.{IsBlockOf, NamesBlock, block_numbers};
 ghost use Rattle.qcow2_base.specs.declared.fault.Fault.TheVariants.{CounterRange, NoMemory};
-ghost use Rattle.qcow2_apply.specs.ChangedClusters.{HaveSameCount, ListsBlock, ListsChanges, ListsCounter, ListsCounters, ListsFreed, StayInOrder};
+ghost use Rattle.qcow2_apply.specs.ChangedClusters.{HaveSameCount, ListsBlock, ListsChanges, ListsCounter, ListsCounters, ListsFreed, StayInOrder, listed_blocks};
 
 use crate::changes::{Changes, push_clusters};
 use crate::counter_tables::{CounterTables, load_followed, load_left};
@@ -229,6 +229,9 @@ fn list_named<S: Storage>(
         ListsBlock tables.now gains.now losses.now index bytes clusters.old clusters.new)) }
     ensures order { let each = counters_each tables.now.header in
         OnOk result (StayInOrder (index * each) ((index + 1) * each) clusters.old clusters.new) }
+    ensures counts { OnOk result (OnImage (S.state image.old) (λ bytes. (c : ℕ) →
+        c / counters_each tables.now.header ≡ index →
+        CannotCount tables.now gains.now losses.now bytes c → ⊥)) }
     ensures fault { IfErr result (λ fault. IsFromOutside fault ⊎ ((fault ≡ CounterRange)
         × OnImage (S.state image.old) (λ bytes.
         (c : ℕ) × CannotCount tables.now gains.now losses.now bytes c))) }
@@ -260,6 +263,9 @@ fn list_at<S: Storage>(
         ListsBlock tables.now gains.now losses.now index bytes clusters.old clusters.new)) }
     ensures order { let each = counters_each tables.now.header in
         OnOk result (StayInOrder (index * each) ((index + 1) * each) clusters.old clusters.new) }
+    ensures counts { OnOk result (OnImage (S.state image.old) (λ bytes. (c : ℕ) →
+        c / counters_each tables.now.header ≡ index →
+        CannotCount tables.now gains.now losses.now bytes c → ⊥)) }
     ensures fault { IfErr result (λ fault. IsFromOutside fault ⊎ ((fault ≡ CounterRange)
         × OnImage (S.state image.old) (λ bytes.
         (c : ℕ) × CannotCount tables.now gains.now losses.now bytes c))) }
@@ -277,7 +283,18 @@ fn list_at<S: Storage>(
     )
 }
 
-/// Lists the clusters whose refcounts change. Returns 30 if a refcount can't follow.
+/// The number of refcount table entries whose clusters lie below 2^56.
+pub(crate) fn listed_blocks(tables: &CounterTables<'_>) -> usize
+    ensures value { result ≡ listed_blocks tables.now }
+    ensures fits { (index : ℕ) → index < result →
+        (index + 1) * counters_each tables.now.header ≤ max_file_length }
+{
+    prove!(tables.header.cluster_bits() <= 21);
+    let blocks = MAX_FILE_LENGTH / tables.header.rb_entries() as u64;
+    tables.reftable.entries().min(blocks as usize)
+}
+
+/// Lists the clusters whose refcounts change. Returns 30 if a refcount of a cluster below 2^56 can't follow.
 pub(crate) fn list_changed<S: Storage>(
     alloc: Global,
     image: &mut S,
@@ -289,6 +306,8 @@ pub(crate) fn list_changed<S: Storage>(
     requires sorted { AreSorted (counters_each tables.now.header) gains.now losses.now }
     ensures listed { IfOk result (λ clusters. OnImage (S.state image.old) (λ bytes.
         ListsChanges tables.now gains.now losses.now bytes clusters)) }
+    ensures counts { OnOk result (OnImage (S.state image.old)
+        (CanCount tables.now gains.now losses.now 0 (listed_blocks tables.now))) }
     ensures fault { IfErr result (λ fault. IsFromOutside fault ⊎ ((fault ≡ CounterRange)
         × OnImage (S.state image.old) (λ bytes.
         (c : ℕ) × CannotCount tables.now gains.now losses.now bytes c))) }
@@ -300,8 +319,7 @@ pub(crate) fn list_changed<S: Storage>(
         gained: Vec::new(alloc),
     };
     prove!(tables.header.cluster_bits() <= 21);
-    let blocks = MAX_FILE_LENGTH / tables.header.rb_entries() as u64;
-    for index in 0..tables.reftable.entries().min(blocks as usize) {
+    for index in 0..listed_blocks(tables) {
         list_at(alloc, image, tables, gains, losses, index, &mut clusters)?;
     }
     Ok(clusters)

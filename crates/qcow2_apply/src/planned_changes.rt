@@ -1,6 +1,6 @@
 //! The planned changes of refcounts, before anything is written.
 
-ghost use Rattle.std.specs.Prelude.{◌≡◌, ◌⊎◌, ℕ, ◌/◌, ◌<◌, false, true, IfErr, IfOk, IsOkUnless, OnOk};
+ghost use Rattle.std.specs.Prelude.{◌≡◌, ◌⊎◌, ℕ, ◌/◌, ◌<◌, false, true, IfErr, IfOk, IsOkUnless, OnOk, length};
 ghost use Rattle.std.specs.List.{All};
 ghost use Rattle.qcow2_base.specs.Storage.{OnImage, OnlyReads};
 ghost use Rattle.qcow2_base.specs.declared.fault.Fault.TheVariants.{CounterRange, NoMemory};
@@ -11,9 +11,9 @@ ghost use Rattle.qcow2_metadata.specs.Table.L2Guards.{handed_back};
 ghost use Rattle.qcow2_check.specs.Counters.{counters_each};
 ghost use Rattle.qcow2_apply.specs.Changes.{HasNone};
 ghost use Rattle.qcow2_apply.specs.ChangedClusters.{ListsChanges};
-ghost use Rattle.qcow2_apply.specs.PlannedChanges.{IsUncounted, HaveCounters, AreSorted, StaySorted, AddsOutcome, CannotCount};
+ghost use Rattle.qcow2_apply.specs.PlannedChanges.{IsUncounted, HaveCounters, AreSorted, StaySorted, AddsOutcome, CannotCount, CanCount};
 
-use crate::changed_clusters::{ChangedClusters, list_changed};
+use crate::changed_clusters::{ChangedClusters, list_changed, listed_blocks};
 use crate::changes::Changes;
 use crate::counter_tables::{CounterTables, load_left};
 use qcow2_base::{Fault, HostCluster, Storage};
@@ -22,19 +22,22 @@ use qcow2_edits::Outcome;
 use qcow2_metadata::{ClustersToFreeEntry, Header, RefBlock, Table};
 use std::alloc::Global;
 
-// Whether refcount blocks count all of these clusters.
+// Whether refcount blocks count all of these clusters. Looks at each block once, from the last one on.
 fn are_counted(counters: &Counters<'_>, clusters: ClustersToFreeEntry) -> bool
     ensures counted { result ≡ true → HaveCounters counters.now.header counters.now.reftable clusters }
     ensures uncounted { result ≡ false →
         (c : ℕ) × (is_among clusters c ≡ true) × IsUncounted counters.now.header counters.now.reftable c }
 {
-    let Some(end) = clusters.first.0.checked_add(clusters.count.0) else {
+    let Some(limit) = clusters.first.0.checked_add(clusters.count.0) else {
         return false;
     };
-    for cluster in clusters.first.0..end {
-        if !counters.has_block(HostCluster(cluster)) {
+    let mut end = limit;
+    while end > clusters.first.0 {
+        let last = HostCluster(end - 1);
+        if !counters.has_block(last) {
             return false;
         }
+        end = counters.block_start(last);
     }
     true
 }
@@ -126,24 +129,25 @@ fn check_block<S: Storage>(
     Ok(())
 }
 
-// Refuses changes that some refcount can't follow.
-fn check_counters<S: Storage>(
+// Refuses changes that a refcount of the blocks from an index on can't follow.
+fn check_blocks_from<S: Storage>(
     alloc: Global,
     image: &mut S,
     tables: &CounterTables<'_>,
     gains: &Changes,
     losses: &Changes,
+    from: usize,
 ) -> Result<(), Fault>
     requires data { uses_external_data tables.now.header ≡ false }
     requires sorted { AreSorted (counters_each tables.now.header) gains.now losses.now }
-    ensures counts { OnOk result (OnImage (S.state image.old) (λ bytes. (c : ℕ) →
-        CannotCount tables.now gains.now losses.now bytes c → ⊥)) }
+    ensures counts { OnOk result (OnImage (S.state image.old)
+        (CanCount tables.now gains.now losses.now from (length tables.now.reftable))) }
     ensures fault { IfErr result (λ fault. IsFromOutside fault ⊎ ((fault ≡ CounterRange)
         × OnImage (S.state image.old) (λ bytes.
         (c : ℕ) × CannotCount tables.now gains.now losses.now bytes c))) }
     ensures storage { OnlyReads result (S.state image.old) (S.state image.new) }
 {
-    for index in 0..tables.reftable.entries() {
+    for index in from..tables.reftable.entries() {
         check_block(alloc, image, tables, index, gains, losses)?;
     }
     Ok(())
@@ -173,7 +177,9 @@ impl PlannedChanges {
         if !self.are_counted {
             return Err(Fault::CounterRange);
         }
-        check_counters(alloc, image, tables, &self.gains, &self.losses)?;
-        list_changed(alloc, image, tables, &self.gains, &self.losses)
+        let (gains, losses) = (&self.gains, &self.losses);
+        let clusters = list_changed(alloc, image, tables, gains, losses)?;
+        check_blocks_from(alloc, image, tables, gains, losses, listed_blocks(tables))?;
+        Ok(clusters)
     }
 }

@@ -1,6 +1,7 @@
-use Rattle.std.proofs.Common.{◌≡◌, Ok, ◌+◌, ◌*◌, ◌/◌, IsTrue, ap, inl, inr, subst, arith, rules}
+use Rattle.std.proofs.Common.{◌≡◌, Ok, ◌+◌, ◌*◌, ◌/◌, IsTrue, inl, inr, length, refl, subst, arith, rules}
 use Rattle.std.proofs.lemmas.Result.{err_from_is_err_and}
 use Rattle.qcow2_apply.proofs.ChangedClustersLemmas.{all-counted, listed-all, listed-next, listed-none, reads-no-more, reads-then}
+use Rattle.qcow2_apply.proofs.PlannedChangesLemmas.{counts-next}
 use Rattle.qcow2_check.proofs.FindingsLemmas.{reads_twice}
 use Rattle.qcow2_apply.proofs.OrderLemmas.{end-later, in-order, none-in-order}
 use Rattle.qcow2_check.specs.Counters.{counters_each}
@@ -12,6 +13,7 @@ pub loop-index-init : goal.loop-index-init
 loop-index-init g c = record {
   listed = λ told. listed-none c.args.tables.now c.args.gains.now c.args.losses.now (g.S.Storage.state c.args.image.now).byte_at _ (search rules) (search rules) (search rules);
   order = end-later 0 (0 * counters_each c.args.tables.now.header) _ (omega arith) (none-in-order _ (search rules) (search rules) (search rules));
+  counts = λ told cluster later below. absurd (omega (arith, below));
   storage = search rules;
 }
 
@@ -45,15 +47,26 @@ loop-index-preserved g c = record {
       (subst (λ there. ListsBlock c.args.tables.now c.args.gains.now c.args.losses.now c.loop-index.index there c.loop-index.clusters c.list_at.new.clusters) bytes
       (c.in_ok-list_at.ensures.listed known));
   order = c.in_ok-list_at.ensures.order c.loop-index.invariant.order;
+  counts = λ told.
+      let known : IsTrue (g.S.Storage.state c.loop-index.image).tells = search rules in
+      let same : (g.S.Storage.state c.loop-index.image).byte_at ≡ (g.S.Storage.state c.args.image.now).byte_at = c.loop-index.invariant.storage.bytes in
+      counts-next c.args.tables.now c.args.gains.now c.args.losses.now 0 c.loop-index.index (g.S.Storage.state c.args.image.now).byte_at
+      (c.loop-index.invariant.counts told) (rw same at (c.in_ok-list_at.ensures.counts known));
   storage = reads_twice c.loop-index.index (tt {0}) (c.loop-index.index + 1) (g.S.Storage.state c.args.image.now) (g.S.Storage.state c.loop-index.image)
       (g.S.Storage.state c.list_at.new.image) c.loop-index.invariant.storage c.in_ok-list_at.ensures.storage;
 }
 
+pub list_at-requires-clause-index : goal.list_at-requires-clause-index
+list_at-requires-clause-index g c = c.listed_blocks-index-end.ensures.fits c.loop-index.index (search rules)
+
 pub returns-clause-listed : goal.returns-clause-listed
 returns-clause-listed g c = λ told. listed-all c.args.tables.now c.args.gains.now c.args.losses.now c.loop-index.index (g.S.Storage.state c.args.image.now).byte_at
-    c.loop-index.clusters (λ cluster. all-counted c.args.tables.now c.min-index-end.result c.entries.result (max_file_length / c.rb_entries.result) c.loop-index.index cluster
-    (search rules) (search rules) (search rules) (ap (λ n. max_file_length / n) (search rules)) (search rules)) (c.loop-index.invariant.listed told)
-    (in-order _ c.loop-index.clusters c.loop-index.invariant.order)
+    c.loop-index.clusters (λ cluster. all-counted c.args.tables.now c.listed_blocks-index-end.result (length c.args.tables.now.reftable)
+    (max_file_length / counters_each c.args.tables.now.header) c.loop-index.index cluster (search rules) (search rules) refl refl (search rules))
+    (c.loop-index.invariant.listed told) (in-order _ c.loop-index.clusters c.loop-index.invariant.order)
+
+pub returns-clause-counts : goal.returns-clause-counts
+returns-clause-counts g c = λ told cluster later below. c.loop-index.invariant.counts told cluster later (omega (arith, below, c.listed_blocks-index-end.ensures.value, c.loop-index-test.false))
 
 pub returns-clause-storage : goal.returns-clause-storage
 returns-clause-storage g c = reads-no-more c.loop-index.index (Ok c.loop-index.clusters) (g.S.Storage.state c.args.image.now) (g.S.Storage.state c.loop-index.image)

@@ -5,7 +5,7 @@ use Rattle.qcow2_check.specs.Counters.{counters_each}
 use Rattle.qcow2_apply.proofs.ChangedClustersLemmas.{lists-block, on-ok, reads-no-more}
 use Rattle.qcow2_apply.proofs.CounterTablesLemmas.{place-at}
 use Rattle.qcow2_apply.proofs.OrderLemmas.{index-after}
-use Rattle.qcow2_apply.proofs.PlannedChangesLemmas.{gains-stuck}
+use Rattle.qcow2_apply.proofs.PlannedChangesLemmas.{all-count, gains-stuck}
 use Rattle.qcow2_apply.specs.ChangedClusters.{ListsCounters, StayInOrder}
 use Rattle.qcow2_apply.specs.CounterTables.{block_numbers}
 use Rattle.qcow2_apply.specs.PlannedChanges.{BlockIsLeft, CannotCount}
@@ -57,6 +57,18 @@ returns-clause-listed g c = on-ok c.list_block.result _ _ (λ lists told.
     (c.in_ok-risen.ensures.followed told) left.gained left.lost (search rules)
     (subst (λ n. ListsCounters n (length numbers) numbers c.in_ok-risen.risen.numbers c.in_ok-after.after.numbers c.args.clusters.now c.list_block.new.clusters)
     first_is lists)) c.list_block.ensures.listed
+
+pub returns-clause-counts : goal.returns-clause-counts
+returns-clause-counts g c = on-ok c.list_block.result _ _ (λ lists told.
+    let before = g.S.Storage.state c.args.image.now in
+    let once = g.S.Storage.state c.load_followed.new.image in
+    let tables = c.args.tables.now in
+    let known : IsTrue once.tells = search rules in
+    let same : once.byte_at ≡ before.byte_at = search rules in
+    let left = subst (λ bytes. BlockIsLeft tables c.args.gains.now c.args.losses.now c.args.index (block_numbers tables c.args.place bytes)
+    c.in_ok-after.after.numbers) same (c.in_ok-after.ensures.left known) in
+    all-count tables c.args.gains.now c.args.losses.now c.args.index c.args.place before.byte_at left.risen c.in_ok-after.after.numbers c.requires.sorted
+    c.requires.place left.gained left.fits left.lost) c.list_block.ensures.listed
 
 pub returns-clause-order : goal.returns-clause-order
 returns-clause-order g c = on-ok c.list_block.result _ _ (λ order.
