@@ -205,3 +205,9 @@ index-after i n first count first_is count_is = omega (arith, first_is, count_is
 
 pub index-later : (i n : ℕ) → i * n ≤ (i + 1) * n
 index-later i n = omega (arith, index-after i n (i * n) n refl refl)
+
+-- lists stay in order over the clusters of a block, by its index
+pub stay-by-index : (i n first count : ℕ) (a b : ChangedClusters) → first ≡ i * n → count ≡ n → StayInOrder first (first + count) a b
+    → StayInOrder (i * n) ((i + 1) * n) a b
+stay-by-index i n first count a b first_is count_is order = subst (λ from. StayInOrder from ((i + 1) * n) a b) first_is
+    (subst (λ end. StayInOrder first end a b) (index-after i n first count first_is count_is) order)

@@ -239,9 +239,12 @@ fn list_named<S: Storage>(
 {
     prove!(tables.header.refcount_order() <= 6);
     let alloc = tables.reftable.allocator();
-    let risen = load_followed(alloc, image, tables, place, index, gains)?;
-    let after = load_left(alloc, image, tables, place, index, gains, losses)?;
     let first = index as u64 * tables.header.rb_entries() as u64;
+    let after = load_left(alloc, image, tables, place, index, gains, losses)?;
+    if gains.outcome_of(index).is_none() {
+        return list_block(clusters, first, before, before, &after);
+    }
+    let risen = load_followed(alloc, image, tables, place, index, gains)?;
     list_block(clusters, first, before, &risen, &after)
 }
 
