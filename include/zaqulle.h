@@ -392,8 +392,8 @@ typedef struct zq_check_totals {
  * zq_header_read tells its marks. Takes memory for the header's names, the L1 table, the refcount table, a refcount
  * block, an L2 table at a time, and the reference counts of a part of the clusters.
  *
- * Faults, in this order: one of 1 to 17 of the header; ZQ_UNCOUNTED (37) for an image with snapshots, bitmaps or LUKS
- * encryption, whose references aren't read; one of ZQ_ENTRY_RESERVED (18) to ZQ_TABLE_PLACE (21), the first of the L1
+ * Faults, in this order: one of 1 to 17 of the header; ZQ_UNCOUNTED (37) for an image with snapshots, bitmaps in use or
+ * keys of LUKS at an unknown place, whose references aren't read; one of ZQ_ENTRY_RESERVED (18) to ZQ_TABLE_PLACE (21), the first of the L1
  * table, the refcount table, the places of its blocks and the L2 tables. ZQ_NO_MEMORY (35), after which elements of
  * findings may have changed.
  */

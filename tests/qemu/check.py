@@ -6,14 +6,18 @@ shares no code with it.
 
 import json
 import re
+import struct
 from collections import Counter
 from itertools import groupby
 from typing import NamedTuple, Optional
 
 from .draft import put_entry, put_features, put_refcount
 from .faults import L1_SHORT, OVERLAP, REFCOUNT_RANGE, TABLE_PLACE, UNCOUNTED
-from .image import COMPRESSED, COPIED, CORRUPT, DIRTY, ENTRY_SIZE, GREATEST_END, LUKS, SECTOR, ZERO
-from .image import Entry, Image, Refused
+from .image import BITMAPS, BITMAPS_AGREE, COMPRESSED, COPIED, CORRUPT, DIRTY, ENCRYPTION, ENTRY_SIZE, GREATEST_END
+from .image import LUKS, SECTOR, ZERO, Entry, Image, Refused
+
+# The offset and the length in the extension of an encryption header, and the most bytes of such a header.
+SPAN, MOST_KEYS = struct.Struct(">QQ"), 1 << 25
 
 # The kinds of lines, in the order of the last line, which has `past` only if there are any, and those that may destroy data.
 KINDS = ("leaked", "missing", "shared", "false", "late")
@@ -23,8 +27,10 @@ HARMFUL = {"missing", "shared", "false", "past"}
 def examine(image, to_repair):
     """Reads all parts of an image in the order of a check, and raises the fault in which that ends before any line."""
     header = image.header
-    if header.nb_snapshots or header.crypt_method >= LUKS:
+    kinds = {kind for kind, _ in image.extensions}
+    if header.nb_snapshots or header.autoclear_features & BITMAPS_AGREE and BITMAPS in kinds:
         raise Refused(UNCOUNTED)
+    encryption_span(image)
     if to_repair and header.is_l1_short:
         raise Refused(L1_SHORT)
     spans = table_spans(image)
@@ -33,6 +39,19 @@ def examine(image, to_repair):
     if any(offset + header.cluster_size > GREATEST_END for offset in image.refcount_blocks.values()):
         raise Refused(TABLE_PLACE)
     image.read()
+
+
+def encryption_span(image):
+    """The host offset and the length of the encryption header, none without one. Refuses keys in other clusters."""
+    header = image.header
+    named = [data for kind, data in image.extensions if kind == ENCRYPTION]
+    if header.crypt_method < LUKS and not named:
+        return 0, 0
+    if header.crypt_method == LUKS and [len(data) for data in named] == [SPAN.size]:
+        offset, length = SPAN.unpack(*named)
+        if offset % header.cluster_size == 0 and length <= MOST_KEYS and offset + length <= GREATEST_END:
+            return offset, length
+    raise Refused(UNCOUNTED)
 
 
 def table_spans(image):
@@ -93,6 +112,7 @@ class Check:
         self.refer(self.fixed, self.header.l1_table_offset, ENTRY_SIZE * self.header.l1_size)
         table_length = self.header.refcount_table_clusters * self.header.cluster_size
         self.refer(self.fixed, self.header.refcount_table_offset, table_length)
+        self.refer(self.fixed, *encryption_span(self.image))
         for offset in self.image.refcount_blocks.values():
             self.refer(self.fixed, offset, self.header.cluster_size)
         for entry in self.image.l1_table:

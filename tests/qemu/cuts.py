@@ -10,7 +10,7 @@ from itertools import zip_longest
 from typing import NamedTuple
 
 from .edits import Drawer
-from .image import AUTOCLEAR_OFFSET, FEATURES_LENGTH, SECTOR, Image
+from .image import AUTOCLEAR_OFFSET, BITMAPS_AGREE, FEATURES_LENGTH, SECTOR, Image
 from .kinds import Maker
 from .tools import ToolFailed, qemu_check_counts, run
 from .trials import Trial
@@ -279,7 +279,8 @@ class CutTrial(Trial):
         copy = path.with_suffix(".copy")
         run(["cp", path.name, copy.name], path.parent)
         words = ["qemu-img", "check", "-q", "-f", "qcow2", "-r", "leaks", copy.name]
-        if self.kind.snapshots == 0 and self.kind.autoclear != "bitmaps":
+        has_bitmaps = Image(copy).header.autoclear_features & BITMAPS_AGREE != 0
+        if self.kind.snapshots == 0 and not has_bitmaps:
             words = [self.qmeta, "check", copy.name, "repair"]
         ended = run(words, path.parent, ())
         self.counts["repaired"] += 1

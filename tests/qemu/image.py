@@ -48,11 +48,19 @@ DIRTY, CORRUPT = 1 << 0, 1 << 1
 # The incompatible feature of an external data file, and the autoclear feature by which that file is the plain disk.
 EXTERNAL_DATA, RAW_DATA = 1 << 2, 1 << 1
 
-# The encryption method whose keys lie in clusters that no table names.
+# The autoclear feature of bitmaps that agree with the disk.
+BITMAPS_AGREE = 1 << 0
+
+# The encryption method whose keys lie in clusters that an extension names.
 LUKS = 2
 
-# The types of header extensions.
+# The types of header extensions, and their type and length.
 BACKING_FORMAT, DATA_FILE = b"\xe2\x79\x2a\xca", b"DATA"
+BITMAPS, ENCRYPTION = b"\x23\x85\x28\x75", b"\x05\x37\xbe\x77"
+EXTENSION = struct.Struct(">4sI")
+
+# An extension's data are padded to a multiple of this many bytes.
+EXTENSION_UNIT = 8
 
 # The number of table entries that are read at once.
 PIECE = 512
@@ -206,6 +214,18 @@ class Image:
         with open(self.path, "rb") as file:
             file.seek(offset)
             return file.read(length).ljust(length, b"\0")
+
+    @cached_property
+    def extensions(self):
+        """The types and the data of the header extensions, which version 2 doesn't have."""
+        found, (place,) = [], struct.unpack(">I", self.bytes_at(HEADER_LENGTH - 4, 4))
+        while self.header.version > 2 and place + EXTENSION.size <= self.header.cluster_size:
+            kind, length = EXTENSION.unpack(self.bytes_at(place, EXTENSION.size))
+            if kind == bytes(len(kind)):
+                break
+            found.append((kind, self.bytes_at(place + EXTENSION.size, length)))
+            place += EXTENSION.size + -(-length // EXTENSION_UNIT) * EXTENSION_UNIT
+        return found
 
     # Tables
 

@@ -3,8 +3,8 @@
 import random
 from typing import NamedTuple
 
-from .image import BACKING_FORMAT, Image
-from .tools import create_image, cut_fill, fill_image, take_snapshot
+from .image import AUTOCLEAR_OFFSET, BACKING_FORMAT, FEATURES_LENGTH, Image
+from .tools import add_bitmap, create_image, cut_fill, fill_image, take_snapshot
 
 # The histories of guest clusters, as commands of qemu-io. Zeros have a host cluster if data was there or the image is
 # preallocated, but those of `hole` have none.
@@ -25,6 +25,10 @@ PLAIN = "none data part zero kept hole discarded"
 PATTERNS = (0.0, 0.3, 0.8)
 
 
+# The options of an encrypted image. Its key is derived in 10 ms.
+LUKS_OPTIONS = "encrypt.format=luks,encrypt.key-secret=key,encrypt.iter-time=10"
+
+
 class Sample(NamedTuple):
     """An image to make: its options and size, the histories of its clusters, and further changes."""
 
@@ -34,6 +38,8 @@ class Sample(NamedTuple):
     histories: str = PLAIN + " compressed rewritten"
     has_snapshot: bool = False
     forgets_format: bool = False
+    bitmaps: int = 0
+    has_stale_bitmaps: bool = False
     is_cut: bool = False
 
     @property
@@ -43,8 +49,13 @@ class Sample(NamedTuple):
 
     @property
     def is_for_all_commands(self):
-        """Whether each command accepts its features."""
-        return not self.is_cut and "zstd" not in self.options
+        """Whether each command accepts its features, and QEMU's tools tell where its data lies."""
+        return not self.is_cut and "zstd" not in self.options and not self.bitmaps and not self.is_encrypted
+
+    @property
+    def is_encrypted(self):
+        """Whether LUKS encrypts its data."""
+        return LUKS_OPTIONS in self.options
 
     @property
     def is_backed(self):
@@ -101,6 +112,15 @@ SAMPLES = [
     Sample("zstd-1", "compression_type=zstd", "64G"),
     Sample("zstd-2", "compression_type=zstd,cluster_size=4k,refcount_bits=1", "10M"),
     Sample("zstd-3", "compression_type=zstd,cluster_size=2M", "1G"),
+    # LUKS encryption, in version 2 with its place in an extension that isn't read there
+    Sample("luks-1", LUKS_OPTIONS, "64G", PLAIN),
+    Sample("luks-2", f"{LUKS_OPTIONS},cluster_size=512,refcount_bits=1", "3M", PLAIN),
+    Sample("luks-3", f"{LUKS_OPTIONS},cluster_size=2M,compression_type=zstd", "1G", PLAIN),
+    Sample("luks-4", f"{LUKS_OPTIONS},compat=0.10", "64M", PLAIN),
+    # persistent bitmaps, which agree with the disk or are stale
+    Sample("bitmaps-1", "", "64M", bitmaps=2),
+    Sample("bitmaps-2", "", "64G", bitmaps=1, has_stale_bitmaps=True),
+    Sample("bitmaps-3", "cluster_size=4k,refcount_bits=1", "10M", bitmaps=3, has_stale_bitmaps=True),
     # left dirty: qemu-io was killed before it wrote refcounts
     Sample("dirty-1", "lazy_refcounts=on", "64G", is_cut=True),
     Sample("dirty-2", "lazy_refcounts=on,cluster_size=512", "3M", is_cut=True),
@@ -122,6 +142,8 @@ def make_sample(sample, folder):
     path = folder / f"{sample.name}.qcow2"
     create_image(path, sample.size, sample.options)
     header = Image(path).header
+    for number in range(sample.bitmaps):
+        add_bitmap(path, f"bitmap-{number}")
     for number in range(len(PATTERNS)):
         (folder / f"pattern-{number}").write_bytes(pattern(number, header.cluster_size))
     clusters = touched_clusters(header)
@@ -137,6 +159,8 @@ def make_sample(sample, folder):
         fill_image(path, [command(header, "write", cluster) for cluster in clusters[::3]])
     if sample.forgets_format:
         forget_format(path)
+    if sample.has_stale_bitmaps:
+        clear_autoclear(path)
     if sample.is_cut:
         cut_fill(path, [command(header, "write", cluster) for cluster in clusters[::3]])
     return path
@@ -169,6 +193,13 @@ def command(header, word, cluster):
         return f"write -P 5 {start + length // 4} {length // 2}"
     source = f" -s pattern-{cluster % len(PATTERNS)}" if word in ("write", "write -c") else ""
     return f"{word}{source} {start} {length}"
+
+
+def clear_autoclear(path):
+    """Clears all autoclear features, as a program does that doesn't know them and writes to the image."""
+    with open(path, "r+b") as file:
+        file.seek(AUTOCLEAR_OFFSET)
+        file.write(bytes(FEATURES_LENGTH))
 
 
 def forget_format(path):

@@ -20,6 +20,12 @@ CHECK_STATUSES = (0, 2, 3)
 # The members of its JSON object that count findings, all 0 in a consistent image.
 CLEAN = {"leaks": 0, "corruptions": 0, "check-errors": 0}
 
+# The key of encrypted images, for QEMU's tools.
+KEY = ("--object", "secret,id=key,data=secret")
+
+# The first bytes of an encrypted image: the last four are its method.
+ENCRYPTED_START = bytes(35) + b"\x02"
+
 # The most characters shown of a failed command, and of the end of its output.
 MOST_SHOWN = 400
 
@@ -102,21 +108,44 @@ def qmeta_output(qmeta, path, command, *words):
 
 
 def create_image(path, size, options="", image_format="qcow2"):
-    """Makes an image by qemu-img."""
+    """Makes an image by qemu-img. An option may name the key `key`."""
     words = ["-o", options] if options else []
-    run(["qemu-img", "create", "-q", "-f", image_format, *words, path.name, str(size)], path.parent)
+    run(["qemu-img", "create", "-q", *KEY, "-f", image_format, *words, path.name, str(size)], path.parent)
+
+
+def is_encrypted(path):
+    """Whether LUKS encrypts an image."""
+    with open(path, "rb") as file:
+        return file.read(len(ENCRYPTED_START))[-4:] == ENCRYPTED_START[-4:]
+
+
+def named_with_key(path):
+    """The words that name an encrypted image for QEMU's tools."""
+    return f"driver=qcow2,encrypt.key-secret=key,file.driver=file,file.filename={path.name}"
+
+
+def opened(path, image_format="qcow2"):
+    """The words by which QEMU's tools open an image."""
+    if image_format == "qcow2" and is_encrypted(path):
+        return [*KEY, "--image-opts", named_with_key(path)]
+    return ["-f", image_format, path.name]
 
 
 def fill_image(path, commands, image_format="qcow2"):
     """Runs commands of qemu-io on an image, without syncs to the device."""
     text = "".join(f"{command}\n" for command in commands)
-    run(["qemu-io", "-t", "unsafe", "-f", image_format, path.name], path.parent, input=text)
+    run(["qemu-io", "-t", "unsafe", *opened(path, image_format)], path.parent, input=text)
 
 
 def cut_fill(path, commands):
     """Runs commands of qemu-io on an image, and kills it before it closes the image."""
     text = "".join(f"{command}\n" for command in [*commands, "flush", f"sigraise {signal.SIGKILL:d}"])
-    run(["qemu-io", "-f", "qcow2", path.name], path.parent, (-signal.SIGKILL,), input=text)
+    run(["qemu-io", *opened(path)], path.parent, (-signal.SIGKILL,), input=text)
+
+
+def add_bitmap(path, name):
+    """Adds a persistent bitmap to an image, which records the writes of QEMU's tools from then on."""
+    run(["qemu-img", "bitmap", "--add", "-f", "qcow2", path.name, name], path.parent)
 
 
 def take_snapshot(path, name):
@@ -125,8 +154,9 @@ def take_snapshot(path, name):
 
 
 def qemu_img_json(path, command, statuses=(0,)):
-    """The JSON output of a command of qemu-img on an image."""
-    return run(["qemu-img", command, "--output=json", "-f", "qcow2", path.name], path.parent, statuses).stdout
+    """The JSON output of a command of qemu-img on an image, with the name of its file."""
+    printed = run(["qemu-img", command, "--output=json", *opened(path)], path.parent, statuses).stdout
+    return printed.replace(named_with_key(path), path.name)
 
 
 def qemu_check_counts(path):

@@ -74,8 +74,8 @@ impl CheckTotals {
 /// # Errors
 ///
 /// A fault of the header (1 to 17); then [`Fault::Uncounted`] (37) for an image with snapshots,
-/// bitmaps or LUKS encryption; then the first fault of its tables (18 to 21); [`Fault::NoMemory`]
-/// (35).
+/// bitmaps in use or keys of LUKS at an unknown place; then the first fault of its tables (18 to
+/// 21); [`Fault::NoMemory`] (35).
 ///
 /// After an error other than 35 `findings` is unchanged.
 ///

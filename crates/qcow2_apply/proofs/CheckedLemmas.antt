@@ -16,6 +16,7 @@ use Rattle.qcow2_metadata.proofs.EntriesLemmas.{l2_fault_zero}
 use Rattle.qcow2_metadata.proofs.L2GuardsLemmas.{zeros-lawful}
 use Rattle.qcow2_metadata.proofs.L2MappingLemmas.{entry_is_lawful}
 use Rattle.qcow2_metadata.proofs.TableLemmas.{first_fault-set, full_cluster, no_fault_at_all, table_numbers_same}
+use Rattle.qcow2_metadata.proofs.WritableLemmas.{uncounted-none, without_autoclear-same}
 use Rattle.qcow2_metadata.specs.Entries.L2Entry.{has_host_cluster, l2_fault, with_zero_flag}
 use Rattle.qcow2_metadata.specs.Header.{Geometry, HeaderRecord, IsValidHeader, geometry_of, uncounted_part}
 use Rattle.qcow2_metadata.specs.Header.Open.{without_autoclear}
@@ -29,7 +30,7 @@ use Rattle.qcow2_check.proofs.FindingsLemmas.{kind-cons}
 use Rattle.qcow2_check.specs.Counters.{blocks_fault, placed_reftable}
 use Rattle.qcow2_check.specs.Findings.{checked_tables, uses_of_kind}
 use Rattle.qcow2_check.specs.NamedTables.{l1_cluster, l1_layout, loaded_l1_table, loaded_reftable, named_cluster, reftable_cluster, reftable_layout}
-use Rattle.qcow2_check.specs.Uses.{ImageTables, all_load, header_uses, l1_entry_loads}
+use Rattle.qcow2_check.specs.Uses.{ImageTables, all_load, header_uses, key_clusters, l1_entry_loads}
 use Rattle.qcow2_check.specs.declared.tally.TallyKind.TheVariants.{Fixed}
 use Rattle.qcow2_summary.proofs.ReportedLemmas.{AreUnshared}
 use Rattle.qcow2_apply.proofs.ApartLemmas.{apart-unshared, block-unshared, fixed-once, table-unshared}
@@ -100,6 +101,7 @@ fixed-elsewhere tables image o apart placed fixed = (
 -- so edits leave it
 fixed-stays : (header : HeaderRecord) (edits : List GuestEdit) (plan : Plan) (old new : Image) (o : ℕ) → AreDone header edits plan old new
     → AreUnshared (plan_tables header plan) old → IsFixed header o → new o ≡ old o
+unfolding key_clusters
 fixed-stays header edits plan old new o done apart fixed =
     let elsewhere = fixed-elsewhere (plan_tables header plan) old o apart done.for.blocks (record { used = fixed.used; twice = fixed.twice }) in
     done.follows.others o elsewhere.0
@@ -270,7 +272,9 @@ are-read header plan image checked = record {
 
 read-checked : (header : HeaderRecord) (plan : Plan) (image : Image) → AreRead header plan.l1_table.numbers plan.reftable.numbers image
     → checked_tables (without_autoclear header) image ≡ Ok (plan_tables header plan)
-read-checked header plan image read = rw (read.counted, read.l1_loads, read.reftable_loads, read.all) refl
+read-checked header plan image read =
+    let counted = uncounted-none header (without_autoclear header) (without_autoclear-same header) read.counted in
+    rw (counted, read.l1_loads, read.reftable_loads, read.all) refl
 
 -- an image without errors that can be checked can be after edits, by the same tables
 checked-after : (header : HeaderRecord) (edits : List GuestEdit) (plan : Plan) (old new : Image) → AreDone header edits plan old new
@@ -289,6 +293,7 @@ checked-after header edits plan old new done checked none =
 
 -- what is found of an image is so whatever autoclear features its header has
 pub left-no-errors : (header : HeaderRecord) (plan : Plan) (image : Image) → HasNoErrors (tables_by header plan) image → HasNoErrors (plan_tables header plan) image
+unfolding key_clusters
 left-no-errors header plan image none = record {
   findings = findings-all IsNoError (plan_tables header plan) image 0 max_file_length
       (λ c after before. no-error-at (tables_by header plan) image none c (omega (arith, before)));
@@ -296,6 +301,7 @@ left-no-errors header plan image none = record {
 }
 
 left-no-leaks : (header : HeaderRecord) (plan : Plan) (image : Image) → HasNoLeaks (tables_by header plan) image → HasNoLeaks (plan_tables header plan) image
+unfolding key_clusters
 left-no-leaks header plan image none = findings-all IsNoLeak (plan_tables header plan) image 0 max_file_length
     (λ c after before. no-leak-at (tables_by header plan) image none c (omega (arith, before)))
 

@@ -13,15 +13,16 @@ use Rattle.qcow2_check.specs.Walk.{tables_list}
 use Rattle.qcow2_check.specs.declared.file_end.FileEnd.{FileEnd}
 use Rattle.qcow2_check.specs.declared.uses.Use.{Use}
 use Rattle.qcow2_check.specs.declared.uses.UseKind.{UseKind}
-use Rattle.qcow2_check.specs.declared.uses.UseKind.TheVariants.{Header}
+use Rattle.qcow2_check.specs.declared.uses.UseKind.TheVariants.{EncryptionHeader, Header}
 
 -- how many clusters a file of this length has, of an image with this header. The last may be cut
 abbrev pub file_clusters : ℕ → HeaderRecord → ℕ
 file_clusters file_length header = div_ceil file_length (2 ^ header.v2.cluster_bits)
 
--- whether clusters are used as the header, which was read from the file
+-- whether clusters are used as a header: the image's, which was read from the file, or the encryption header, which isn't read
 abbrev pub is_header : UseKind → Bool
 is_header Header = true
+is_header EncryptionHeader = true
 is_header kind = false
 
 -- whether a file of that many clusters, the last of which may be cut, has these clusters

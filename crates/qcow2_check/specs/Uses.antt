@@ -1,13 +1,14 @@
 -- Which clusters does an image use, and how often?
-use Rattle.std.specs.Prelude.{ℕ, ◌*◌, ◌^◌, List, [], ◌∷◌, ◌++◌, flat_map, if◌then◌else◌, option_map, option_to_list, Some, None, Result, Ok}
+use Rattle.std.specs.Prelude.{ℕ, ◌*◌, ◌^◌, List, [], ◌∷◌, ◌++◌, flat_map, if◌then◌else◌, option_map, option_to_list, unwrap_or, Some, None, Result, Ok}
 use Rattle.std.specs.Int.{div_ceil}
 use Rattle.std.specs.List.{sum_by}
 use Rattle.qcow2_base.specs.Storage.{Image}
 use Rattle.qcow2_base.specs.declared.fault.Fault.{Fault}
+use Rattle.qcow2_base.specs.declared.types.ClusterCount.{ClusterCount}
 use Rattle.qcow2_base.specs.declared.types.HostCluster.{HostCluster}
 use Rattle.qcow2_metadata.specs.Entries.{is_among}
 use Rattle.qcow2_metadata.specs.Entries.L2Entry.{allocation}
-use Rattle.qcow2_metadata.specs.Header.{Geometry, HeaderRecord, geometry_of}
+use Rattle.qcow2_metadata.specs.Header.{Geometry, HeaderRecord, encryption_clusters, geometry_of}
 use Rattle.qcow2_metadata.specs.Placed.{numbers_at}
 use Rattle.qcow2_metadata.specs.Results.{and_then, result_map}
 use Rattle.qcow2_metadata.specs.Table.{l2_layout, loaded_l2_table}
@@ -26,11 +27,17 @@ pub record ImageTables : Type 0 where
 abbrev pub image_tables : HeaderRecord → List ℕ → List ℕ → ImageTables
 image_tables header l1 reftable = record { header = header; l1 = l1; reftable = reftable }
 
--- the header's cluster, the clusters that the L1 table's bytes are in, and those of the refcount table
+-- the clusters of the encryption header, the first and how many: none where an image has no such header
+unfoldable pub key_clusters : HeaderRecord → HostCluster × ClusterCount
+key_clusters header = unwrap_or (encryption_clusters header) (record { 0 = 0 }, record { 0 = 0 })
+
+-- the header's cluster, the clusters that the L1 table's bytes are in, those of the refcount table, and those of the encryption
+-- header
 abbrev pub header_uses : HeaderRecord → List ClusterUse
 header_uses header = used_clusters Fixed (record { 0 = 0 }) 1
     ∷ used_clusters Fixed (l1_cluster header) (div_ceil (8 * header.v2.l1_size) (2 ^ header.v2.cluster_bits))
-    ∷ used_clusters Fixed (reftable_cluster header) header.v2.refcount_table_clusters ∷ []
+    ∷ used_clusters Fixed (reftable_cluster header) header.v2.refcount_table_clusters
+    ∷ used_clusters Fixed (key_clusters header).0 (key_clusters header).1.0 ∷ []
 
 -- the block that a refcount table entry names
 abbrev pub block_uses : ℕ → ℕ → List ClusterUse

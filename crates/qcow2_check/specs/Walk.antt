@@ -11,22 +11,24 @@ use Rattle.qcow2_metadata.specs.Table.{l2_entries, l2_layout}
 use Rattle.qcow2_check.specs.NamedTables.{l1_cluster, named_block, named_cluster, reftable_cluster}
 use Rattle.qcow2_check.specs.Repeats.{times_at}
 use Rattle.qcow2_check.specs.Tally.{ClusterUse, CountsMore, TallyState, repetition}
-use Rattle.qcow2_check.specs.Uses.{ImageTables}
+use Rattle.qcow2_check.specs.Uses.{ImageTables, key_clusters}
 use Rattle.qcow2_check.specs.declared.tally.TallyKind.{TallyKind}
 use Rattle.qcow2_check.specs.declared.tally.TallyKind.TheVariants as tally
 use Rattle.qcow2_check.specs.declared.uses.Use.{Use}
 use Rattle.qcow2_check.specs.declared.uses.UseKind.{UseKind}
-use Rattle.qcow2_check.specs.declared.uses.UseKind.TheVariants.{Compressed, Data, Header, L1Table, L2Table, RefcountBlock, RefcountTable}
+use Rattle.qcow2_check.specs.declared.uses.UseKind.TheVariants.{Compressed, Data, EncryptionHeader, Header, L1Table, L2Table, RefcountBlock, RefcountTable}
 
 -- that many clusters from one on, used in this way by this owner
 abbrev pub one_use : UseKind → HostCluster → ℕ → ℕ → Use
 one_use kind first count owner = record { kind = kind; clusters = record { first = first; count = record { 0 = count } }; owner = owner }
 
--- the header's cluster, the clusters that the L1 table's bytes are in, and those of the refcount table
+-- the header's cluster, the clusters that the L1 table's bytes are in, those of the refcount table, and those of the encryption
+-- header
 abbrev pub header_list : HeaderRecord → List Use
 header_list header = one_use Header (record { 0 = 0 }) 1 0
     ∷ one_use L1Table (l1_cluster header) (div_ceil (8 * header.v2.l1_size) (2 ^ header.v2.cluster_bits)) 0
-    ∷ one_use RefcountTable (reftable_cluster header) header.v2.refcount_table_clusters 0 ∷ []
+    ∷ one_use RefcountTable (reftable_cluster header) header.v2.refcount_table_clusters 0
+    ∷ one_use EncryptionHeader (key_clusters header).0 (key_clusters header).1.0 0 ∷ []
 
 -- the block that the refcount table entry at an index names
 abbrev pub block_list : ℕ → ℕ → ℕ → List Use
@@ -70,7 +72,8 @@ l1_list g image index v = elim (named_cluster g.cluster_bits v) [
   | Some cluster ↦ entries_list g index (numbers_at (l2_layout g) cluster image)
 ]
 
--- what tables use themselves, in order: the header's cluster, the L1 table, the refcount table, its blocks, and the L2 tables
+-- what tables use themselves, in order: the header's cluster, the L1 table, the refcount table, the encryption header, the
+-- refcount blocks, and the L2 tables
 abbrev pub tables_list : ImageTables → List Use
 tables_list tables = header_list tables.header
     ++ list_from (block_list tables.header.v2.cluster_bits) 0 tables.reftable
@@ -104,6 +107,7 @@ abbrev pub most_owners : UseKind → ℕ
 most_owners Header = 1
 most_owners L1Table = 1
 most_owners RefcountTable = 1
+most_owners EncryptionHeader = 1
 most_owners RefcountBlock = most_reftable_entries
 most_owners L2Table = most_l1_entries
 most_owners Data = most_guest_clusters
@@ -121,6 +125,7 @@ tally_kind Compressed = tally.Guest
 tally_kind Header = tally.Fixed
 tally_kind L1Table = tally.Fixed
 tally_kind RefcountTable = tally.Fixed
+tally_kind EncryptionHeader = tally.Fixed
 tally_kind RefcountBlock = tally.Fixed
 
 -- a use as a tally counts it

@@ -195,6 +195,7 @@ impl UseKind {
             UseKind::Header => TallyKind::Fixed,
             UseKind::L1Table => TallyKind::Fixed,
             UseKind::RefcountTable => TallyKind::Fixed,
+            UseKind::EncryptionHeader => TallyKind::Fixed,
             UseKind::RefcountBlock => TallyKind::Fixed,
         }
     }
@@ -220,7 +221,7 @@ impl UseSink for Tally {
 }
 
 /// The most references that one cluster of an image can have: one from each L1 entry that names an L2 table,
-/// one from each entry of these tables, one from each refcount table entry, and three from the header.
+/// one from each entry of these tables, one from each refcount table entry, and four from the header.
 pub(crate) fn most_uses(tables: &ImageTables<'_>) -> u64 {
     let l1_table = tables.l1_table;
     let mut named = 0u64;
@@ -231,7 +232,7 @@ pub(crate) fn most_uses(tables: &ImageTables<'_>) -> u64 {
     let entries = named.saturating_mul(each.saturating_add(1));
     entries
         .saturating_add(tables.reftable.entries() as u64)
-        .saturating_add(3)
+        .saturating_add(4)
 }
 
 // Counts the references of an L2 table `times` times.

@@ -21,7 +21,7 @@ use qcow2_metadata::Header;
 use std::alloc::Global;
 
 /// A sink of the walk that finds the first reference to clusters past the end of a file. It accepts the
-/// header, which was read from the file.
+/// header, which was read from the file, and the encryption header, which isn't read.
 #[derive(Drop)]
 pub struct FileEnd {
     /// The number of clusters in the file. The last may be partial.
@@ -48,7 +48,7 @@ impl FileEnd {
     {
         let (first, count) = (used.clusters.first.0, used.clusters.count.0);
         match used.kind {
-            UseKind::Header => true,
+            UseKind::Header | UseKind::EncryptionHeader => true,
             _ => count == 0 || (first <= self.clusters && count <= self.clusters - first),
         }
     }

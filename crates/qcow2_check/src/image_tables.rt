@@ -44,8 +44,8 @@ pub struct OpenTables<'a> {
 
 /// Opens the tables of an image with this header for a check of all its references.
 ///
-/// Returns the first of these faults: 37 if the image has snapshots, bitmaps or LUKS encryption, that of the
-/// L1 table, that of the refcount table, or 21 if a refcount block would end past 2^56. Changes no byte.
+/// Returns the first of these faults: 37 if `Header::uncounted_part` returns a part, that of the L1 table,
+/// that of the refcount table, or 21 if a refcount block would end past 2^56. Changes no byte.
 pub fn open_tables<'a, S: Storage>(
     alloc: Global,
     image: &mut S,

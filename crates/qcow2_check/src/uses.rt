@@ -17,6 +17,8 @@ pub enum UseKind {
     L1Table,
     /// The refcount table.
     RefcountTable,
+    /// The encryption header, which keeps the keys of LUKS.
+    EncryptionHeader,
     /// A refcount block.
     RefcountBlock,
     /// An L2 table.

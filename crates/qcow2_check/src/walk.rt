@@ -20,7 +20,8 @@ use crate::uses::{Use, UseKind};
 use qcow2_base::{ClusterCount, Fault, HostCluster, Storage};
 use qcow2_metadata::{Header, L1Table, RefTable, Table};
 
-/// Takes the references of a header: to its own cluster, the L1 table and the refcount table.
+/// Takes the references of a header: to its own cluster, the L1 table, the refcount table, and the encryption
+/// header, which has no clusters if there is none.
 pub fn walk_header<U: UseSink>(header: &Header, sink: &mut U) -> Result<(), Fault>
     ensures fault { IsOkUnless result NoMemory }
     ensures taken { OnOk result (U.takes (header_list header.now) sink.old sink.new) }
@@ -33,6 +34,8 @@ pub fn walk_header<U: UseSink>(header: &Header, sink: &mut U) -> Result<(), Faul
     let l1_cluster = header.l1_table_offset().cluster(cluster_bits);
     let reftable_cluster = header.reftable_offset().cluster(cluster_bits);
     let reftable_clusters = header.reftable_clusters();
+    let no_clusters = (HostCluster(0), ClusterCount(0));
+    let (first, count) = header.encryption_clusters().unwrap_or(no_clusters);
     sink.take(Use::new(UseKind::Header, HostCluster(0), 1, 0))?;
     sink.take(Use::new(UseKind::L1Table, l1_cluster, l1_clusters.0, 0))?;
     sink.take(Use::new(
@@ -40,7 +43,8 @@ pub fn walk_header<U: UseSink>(header: &Header, sink: &mut U) -> Result<(), Faul
         reftable_cluster,
         reftable_clusters.0,
         0,
-    ))
+    ))?;
+    sink.take(Use::new(UseKind::EncryptionHeader, first, count.0, 0))
 }
 
 // Takes the refcount block that a refcount table entry names.

@@ -8,7 +8,9 @@ use crate::sample_image::sample_image;
 use qcow2_base::{Fault, HostCluster, MemStorage};
 use qcow2_check::{ImageTables, Use, UseKind, UseSink, load_l1_table, load_reftable, walk_uses};
 use qcow2_metadata::Header;
-use qcow2_testing::sample_image::{L2_TABLE, NEXT_ENTRY, NEXT_TABLE};
+use qcow2_testing::sample_image::{
+    KEYS, KEYS_LENGTH, KEYS_OFFSET, L2_TABLE, LUKS, NEXT_ENTRY, NEXT_TABLE,
+};
 use qcow2_testing::{Numbers, each, rows, same};
 use std::alloc::Global;
 use std::test::Fail;
@@ -42,15 +44,22 @@ struct Walked<'a> {
     uses: &'a [Reference],
 }
 
+// An image without an encryption header has one without clusters.
 const WALKED: &[Walked<'static>] = rows! { Walked:
     { name: "the sample image", changes: &[], uses: &[
         (UseKind::Header, 0, 1, 0), (UseKind::L1Table, 1, 1, 0), (UseKind::RefcountTable, 3, 1, 0),
-        (UseKind::RefcountBlock, 4, 1, 0), (UseKind::L2Table, 2, 1, 0), (UseKind::Data, 5, 1, 3)] },
+        (UseKind::EncryptionHeader, 0, 0, 0), (UseKind::RefcountBlock, 4, 1, 0),
+        (UseKind::L2Table, 2, 1, 0), (UseKind::Data, 5, 1, 3)] },
+    { name: "an encryption header", changes: &[LUKS, KEYS, KEYS_OFFSET, KEYS_LENGTH], uses: &[
+        (UseKind::Header, 0, 1, 0), (UseKind::L1Table, 1, 1, 0), (UseKind::RefcountTable, 3, 1, 0),
+        (UseKind::EncryptionHeader, 6, 2, 0), (UseKind::RefcountBlock, 4, 1, 0), (UseKind::L2Table, 2, 1, 0),
+        (UseKind::Data, 5, 1, 3)] },
     // both L1 entries name the table, which has 64 entries; the compressed data crosses a cluster boundary
     { name: "an L2 table with compressed data, twice",
         changes: &[(NEXT_TABLE, L2_TABLE), (NEXT_ENTRY, 1 << 62 | 1 << 61 | 2600)], uses: &[
         (UseKind::Header, 0, 1, 0), (UseKind::L1Table, 1, 1, 0), (UseKind::RefcountTable, 3, 1, 0),
-        (UseKind::RefcountBlock, 4, 1, 0), (UseKind::L2Table, 2, 1, 0), (UseKind::L2Table, 2, 1, 1),
+        (UseKind::EncryptionHeader, 0, 0, 0), (UseKind::RefcountBlock, 4, 1, 0),
+        (UseKind::L2Table, 2, 1, 0), (UseKind::L2Table, 2, 1, 1),
         (UseKind::Data, 5, 1, 3), (UseKind::Compressed, 5, 2, 4),
         (UseKind::Data, 5, 1, 67), (UseKind::Compressed, 5, 2, 68)] },
 };

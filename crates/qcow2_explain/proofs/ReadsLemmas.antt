@@ -29,6 +29,15 @@ pub reads-found : {A B : Type 0} (value : A) (other : B) (old new : StorageState
     ReadsFor (IsErrOf {T = A} (Ok value) Storage) old new → ReadsFor (IsErrOf {T = B} (Ok other) Storage) old new
 reads-found value other old new reads = grind (arith, nat_tests, reads)
 
+-- reads that returned a value, after which whatever else failed
+pub reads-spared : {A told : Type 0} (value : A) (old new : StorageState) → ReadsFor (IsErrOf {T = A} (Ok value) Storage) old new → ReadsFor told old new
+reads-spared value old new reads = record {
+  failed = λ moved. let never : ⊥ = grind (arith, reads.failed moved) in elim never [ ];
+  bytes = reads.bytes;
+  len = reads.len;
+  device = reads.device;
+}
+
 -- reads that ended in a fault other than the storage's, of which only the fault of a failed one is known
 pub reads-other : {A : Type 0} (fault : Fault) (old new : StorageState) →
     fault ≢ Storage → ReadsFor (IsErrOf {T = A} (Err fault) Storage) old new → ReadsFor ⊥ old new

@@ -11,8 +11,11 @@ use qcow2_metadata::HeaderExtensionType;
 use std::alloc::Global;
 use std::fmt;
 
-// The types of extensions with clusters whose references aren't counted: bitmaps and an encryption header.
-const UNCOUNTED: [u64; 2] = [0x23852875, 0x0537be77];
+// The type of the extension with the place of the bitmaps.
+const BITMAPS: u64 = 0x23852875;
+
+// The type of the extension with the place of the encryption header.
+const ENCRYPTION: u64 = 0x0537be77;
 
 // The largest cluster size in bytes.
 const LARGEST_CLUSTER: u64 = 1 << 21;
@@ -33,8 +36,10 @@ pub(super) enum ExtensionTopic {
     BackingFormat,
     /// It holds the external data file's name.
     DataFile,
-    /// It refers to clusters whose references aren't counted.
-    Uncounted,
+    /// It holds the place of the bitmaps.
+    Bitmaps,
+    /// It holds the place of the encryption header.
+    Encryption,
 }
 
 /// A header extension: its offset in the image, its type, and the length of its data in bytes.
@@ -158,7 +163,8 @@ fn is_about<S: Storage>(
         ExtensionTopic::CutName => Ok(is_names && extension.length % FEATURE_NAME_BYTES == 1),
         ExtensionTopic::BackingFormat => Ok(is_format),
         ExtensionTopic::DataFile => Ok(is_data_file),
-        ExtensionTopic::Uncounted => Ok(UNCOUNTED.contains(&extension.extension_type)),
+        ExtensionTopic::Bitmaps => Ok(extension.extension_type == BITMAPS),
+        ExtensionTopic::Encryption => Ok(extension.extension_type == ENCRYPTION),
     }
 }
 

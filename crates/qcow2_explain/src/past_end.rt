@@ -49,8 +49,9 @@ fn places_past_end<S: Storage>(
     match file.missing.map(|used| used.kind) {
         Some(UseKind::L1Table) => return fields_of(alloc, image, Topic::L1Table),
         Some(UseKind::RefcountTable) => return fields_of(alloc, image, Topic::RefTable),
-        // `walk_header` takes none of these, except the header, which `FileEnd` accepts.
-        Some(UseKind::Header | UseKind::RefcountBlock | UseKind::L2Table) => {}
+        // `walk_header` takes none of these, except headers, which `FileEnd` accepts.
+        Some(UseKind::Header | UseKind::EncryptionHeader) => {}
+        Some(UseKind::RefcountBlock | UseKind::L2Table) => {}
         Some(UseKind::Data | UseKind::Compressed) | None => {}
     }
     let reftable = load_reftable(alloc, image, header)?;

@@ -240,18 +240,18 @@ fn by_part<S: Storage>(
     let fault = Fault::Uncounted(part);
     let places = match part {
         UncountedPart::Snapshots => fields_of(alloc, image, Topic::Snapshots)?,
-        UncountedPart::Bitmaps => extensions_of(alloc, image, ExtensionTopic::Uncounted)?,
+        UncountedPart::Bitmaps => extensions_of(alloc, image, ExtensionTopic::Bitmaps)?,
         UncountedPart::Encryption => places_of_keys(alloc, image)?,
     };
     Ok(Some(Refusal { fault, places }))
 }
 
-// The places that say that an image has encryption with keys in clusters: extensions, or without these a
-// header field.
+// The places that say that an image has encryption with keys in clusters that aren't known: extensions, or
+// without these a header field.
 fn places_of_keys<S: Storage>(alloc: Global, image: &mut S) -> Result<Vec<Place>, Fault>
     ensures storage { ReadsFor (IsErrOf result StorageFailed) (S.state image.old) (S.state image.new) }
 {
-    let extensions = extensions_of(alloc, image, ExtensionTopic::Uncounted)?;
+    let extensions = extensions_of(alloc, image, ExtensionTopic::Encryption)?;
     if extensions.is_empty() {
         return fields_of(alloc, image, Topic::Encryption);
     }

@@ -90,11 +90,12 @@ Status 0: printed. 1: a fault. Faults: those of `info`, and 18 to 21 of the L1 t
 const TABLES: &str = "\
 qmeta tables IMAGE
 
-Prints the place of each table by host clusters: `header 0 1`, `l1 FIRST COUNT`, `l2 L1INDEX CLUSTER OFFSET
-LENGTH COUNTER` for each L2 table, with the range of the disk that it maps and its refcount, `refcount-table
-FIRST COUNT`, and `refcount-block INDEX CLUSTER FIRST` for each block, with the first cluster that it counts.
-`edit` takes the L1INDEX, `l2` the CLUSTER of an `l2` line, `count` that of a `refcount-block` line. It reads
-no L2 table, so it notices no damage there. Only reads.
+Prints the place of each table by host clusters: `header 0 1`, `l1 FIRST COUNT`, `encryption-header FIRST
+COUNT` if there are keys of LUKS, `l2 L1INDEX CLUSTER OFFSET LENGTH COUNTER` for each L2 table, with the range
+of the disk that it maps and its refcount, `refcount-table FIRST COUNT`, and `refcount-block INDEX CLUSTER
+FIRST` for each block, with the first cluster that it counts. `edit` takes the L1INDEX, `l2` the CLUSTER of an
+`l2` line, `count` that of a `refcount-block` line. It reads no L2 table, so it notices no damage there. Only
+reads.
 
 Status 0: printed. 1: a fault, and no line. Faults: those of `info`, and 18 to 21 of the L1 table or of the
 refcount table.
@@ -107,10 +108,11 @@ qmeta layout IMAGE
 qmeta layout IMAGE svg
 
 Prints the content of each host cluster, from 0 to the last one in use, in lines `FIRST COUNT PART`. PART is
-one of `header`, `l1`, `l2`, `refcount-table`, `refcount-block`, `data OFFSET` with the guest offset of the
-first cluster, `compressed`, `leaked`, `free`. A cluster with several references is printed once: as the first
-of `header`, `l1`, `refcount-table`, `refcount-block`, `l2` that applies, else as the content of the lowest
-guest offset. With `svg` it prints a picture with a legend, of at most 200 kB, for a browser. Only reads.
+one of `header`, `l1`, `l2`, `refcount-table`, `refcount-block`, `encryption-header` with the keys of LUKS,
+`data OFFSET` with the guest offset of the first cluster, `compressed`, `leaked`, `free`. A cluster with
+several references is printed once: as the first of `header`, `l1`, `refcount-table`, `encryption-header`,
+`refcount-block`, `l2` that applies, else as the content of the lowest guest offset. With `svg` it prints a
+picture with a legend, of at most 200 kB, for a browser. Only reads.
 
 Status 0: printed. 1: a fault; only 34 and 35 come after a line. Faults: those of `check` without `repair`.
 
@@ -150,10 +152,11 @@ PLACE is `l1 INDEX`, or the guest offset of an L2 entry. With `json` it prints n
 --output=json` does. With `repair` it corrects refcounts and flags first, and clears the marks if nothing
 stays wrong; without it, it only reads.
 
-Status 0: consistent. 1: a fault. 3: only leaks and late flags, which harm nobody. 4: anything worse.
-Faults: those of `info`; 37 with snapshots, bitmaps or LUKS encryption; 18 to 21 of the tables. With
-`repair` also 39 if another process has the image open, 41 if the L1 table is too short, 21 if a table lies
-past the end of the image's file, and 38, 30 or 24 if the image can't be repaired.
+Status 0: consistent. 1: a fault. 3: only leaks and late flags, which harm nobody if the file is whole. 4:
+anything worse. Faults: those of `info`; 37 with snapshots, bitmaps in use, or keys of LUKS at an unknown
+place; 18 to 21 of the tables. With `repair` also 39 if another process has the image open, 41 if the L1 table
+is too short, 21 if a table lies past the end of the image's file, and 38, 30 or 24 if the image can't be
+repaired.
 
   $ qmeta check disk.qcow2
 ";
@@ -165,7 +168,7 @@ qmeta apply IMAGE plan EDIT..
 Changes what ranges of the disk read as, with all refcounts. First run `check`: after status 0 or 3, a crash
 of `apply` leaves leaks at most; after 4, `apply` may free a cluster in use. With `plan` it prints the same
 and writes nothing. Without it, it clears the autoclear bits: QEMU then drops persistent bitmaps, and their
-clusters leak until `qemu-img check -r leaks`. If there are N bitmaps, `plan` prints `stale-bitmaps N` last.
+clusters leak until `check repair`. If there are N bitmaps, `plan` prints `stale-bitmaps N` last.
 An EDIT is one of
 
   discard:OFFSET:LENGTH    unmaps the range: it reads as the backing file, or as zeros without one

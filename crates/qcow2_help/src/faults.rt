@@ -244,9 +244,11 @@ Use `qmeta edit`, which changes no refcount.
 ";
 
 const UNCOUNTED: &str = "\
-fault 37, Uncounted: The image must have no snapshots, bitmaps or LUKS encryption, whose references \
-aren't counted.
+fault 37, Uncounted: The image must have no snapshots, no bitmaps in use, and no keys of LUKS at an \
+unknown place, since their references aren't counted.
 `check`, its repair or `layout` was asked of an image that has one of them, or its header is damaged.
+Bitmaps are in use if their autoclear bit is set. One header extension must tell the place of the keys, which
+version 2 doesn't have.
 Run `qemu-img check`, which counts them; for LUKS give it `--object secret,id=K,file=F --image-opts
 driver=qcow2,file.filename=IMAGE,encrypt.key-secret=K`. If the header is damaged, restore it from a
 copy.

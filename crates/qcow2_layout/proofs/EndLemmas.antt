@@ -62,6 +62,7 @@ taken-part : (cb : ℕ) (k : UseKind) (owner : ℕ) → is_free (part_of cb k ow
 taken-part cb kind.Header owner = refl
 taken-part cb kind.L1Table owner = refl
 taken-part cb kind.RefcountTable owner = refl
+taken-part cb kind.EncryptionHeader owner = refl
 taken-part cb kind.RefcountBlock owner = refl
 taken-part cb kind.L2Table owner = refl
 taken-part cb kind.Data owner = refl

@@ -16,7 +16,7 @@ use Rattle.qcow2_layout.specs.Layout.{AreOne, AreRuns, IsLayoutOf, IsStretch, Is
 use Rattle.qcow2_layout.specs.Parts.{is_free, taken_end, part_at, unused_part, use_in, used_part}
 use Rattle.qcow2_layout.specs.Window.{PlacesAll, cell_further, cell_of, code_of}
 use Rattle.qcow2_layout.specs.declared.parts.Part.{Part}
-use Rattle.qcow2_layout.specs.declared.parts.Part.TheVariants.{Compressed, Data, Free, Header, L1Table, L2Table, Leaked, RefcountBlock, RefcountTable}
+use Rattle.qcow2_layout.specs.declared.parts.Part.TheVariants.{Compressed, Data, EncryptionHeader, Free, Header, L1Table, L2Table, Leaked, RefcountBlock, RefcountTable}
 use Rattle.qcow2_layout.specs.declared.parts.Run.{Run}
 
 -- a part moves on by no bytes, and by the sum of two steps
@@ -24,6 +24,7 @@ moved-none : (part : Part) → moved_part 0 part ≡ part
 moved-none Header = refl
 moved-none L1Table = refl
 moved-none RefcountTable = refl
+moved-none EncryptionHeader = refl
 moved-none RefcountBlock = refl
 moved-none L2Table = refl
 moved-none Compressed = refl
@@ -35,6 +36,7 @@ moved-twice : (a b : ℕ) (part : Part) → moved_part b (moved_part a part) ≡
 moved-twice a b Header = refl
 moved-twice a b L1Table = refl
 moved-twice a b RefcountTable = refl
+moved-twice a b EncryptionHeader = refl
 moved-twice a b RefcountBlock = refl
 moved-twice a b L2Table = refl
 moved-twice a b Compressed = refl
@@ -59,9 +61,9 @@ one-piece cb parts from part is = (
 
 -- a cell further on in a run isn't 0
 further-some : (cell count : ℕ) → 0 < cell → cell_further cell count ≡ 0 → ⊥
-further-some cell count some none = by_test (nat_lt cell 7) refl
+further-some cell count some none = by_test (nat_lt cell 8) refl
   where
-    by_test : (small : Bool) → nat_lt cell 7 ≡ small → ⊥
+    by_test : (small : Bool) → nat_lt cell 8 ≡ small → ⊥
     by_test true is = omega (arith, some, rw is at none)
     by_test false is = omega (arith, some, rw is at none)
 
@@ -235,6 +237,7 @@ free-is : (part : Part) → not (is_free part) ≡ false → part ≡ Free
 free-is Header is = absurd (true≢false is)
 free-is L1Table is = absurd (true≢false is)
 free-is RefcountTable is = absurd (true≢false is)
+free-is EncryptionHeader is = absurd (true≢false is)
 free-is RefcountBlock is = absurd (true≢false is)
 free-is L2Table is = absurd (true≢false is)
 free-is Compressed is = absurd (true≢false is)
@@ -246,6 +249,7 @@ moved-free : (bytes : ℕ) (part : Part) → not (is_free (moved_part bytes part
 moved-free bytes Header is = absurd (true≢false is)
 moved-free bytes L1Table is = absurd (true≢false is)
 moved-free bytes RefcountTable is = absurd (true≢false is)
+moved-free bytes EncryptionHeader is = absurd (true≢false is)
 moved-free bytes RefcountBlock is = absurd (true≢false is)
 moved-free bytes L2Table is = absurd (true≢false is)
 moved-free bytes Compressed is = absurd (true≢false is)

@@ -16,7 +16,7 @@ use Rattle.qcow2_layout.specs.Layout.{moved_part}
 use Rattle.qcow2_layout.specs.Parts.{part_at, part_of, unused_part, use_in, used_part}
 use Rattle.qcow2_layout.specs.Window.{cell_further, cell_of, code_of}
 use Rattle.qcow2_layout.specs.declared.parts.Part.{Part}
-use Rattle.qcow2_layout.specs.declared.parts.Part.TheVariants.{Compressed, Data, Free, Header, L1Table, L2Table, Leaked, RefcountBlock, RefcountTable}
+use Rattle.qcow2_layout.specs.declared.parts.Part.TheVariants.{Compressed, Data, EncryptionHeader, Free, Header, L1Table, L2Table, Leaked, RefcountBlock, RefcountTable}
 
 -- the part that a number stands for
 abbrev pub decoded : ℕ → ℕ → Part
@@ -24,30 +24,33 @@ decoded cb cell =
     if cell == 1 then Header
     else if cell == 2 then L1Table
     else if cell == 3 then RefcountTable
-    else if cell == 4 then RefcountBlock
-    else if cell == 5 then L2Table
-    else if cell == 6 then Compressed
-    else Data (record { 0 = (cell - 7) * 2 ^ cb })
+    else if cell == 4 then EncryptionHeader
+    else if cell == 5 then RefcountBlock
+    else if cell == 6 then L2Table
+    else if cell == 7 then Compressed
+    else Data (record { 0 = (cell - 8) * 2 ^ cb })
 
 -- the number of a part
 abbrev pub encoded : ℕ → Part → ℕ
 encoded cb Header = 1
 encoded cb L1Table = 2
 encoded cb RefcountTable = 3
-encoded cb RefcountBlock = 4
-encoded cb L2Table = 5
-encoded cb Compressed = 6
+encoded cb EncryptionHeader = 4
+encoded cb RefcountBlock = 5
+encoded cb L2Table = 6
+encoded cb Compressed = 7
 encoded cb Leaked = 0
 encoded cb Free = 0
-encoded cb (Data offset) = 7 + offset.0 / 2 ^ cb
+encoded cb (Data offset) = 8 + offset.0 / 2 ^ cb
 
-data-decoded : (cb guest : ℕ) → decoded cb (7 + guest) ≡ Data (record { 0 = guest * 2 ^ cb })
+data-decoded : (cb guest : ℕ) → decoded cb (8 + guest) ≡ Data (record { 0 = guest * 2 ^ cb })
 data-decoded cb guest = grind (arith, nat_tests)
 
 pub part_decoded : (cb : ℕ) (k : UseKind) (owner : ℕ) → part_of cb k owner ≡ decoded cb (code_of k owner)
 part_decoded cb kind.Header owner = refl
 part_decoded cb kind.L1Table owner = refl
 part_decoded cb kind.RefcountTable owner = refl
+part_decoded cb kind.EncryptionHeader owner = refl
 part_decoded cb kind.RefcountBlock owner = refl
 part_decoded cb kind.L2Table owner = refl
 part_decoded cb kind.Compressed owner = refl
@@ -58,13 +61,14 @@ pub code-some : (k : UseKind) (owner : ℕ) → 0 < code_of k owner
 code-some kind.Header owner = omega arith
 code-some kind.L1Table owner = omega arith
 code-some kind.RefcountTable owner = omega arith
+code-some kind.EncryptionHeader owner = omega arith
 code-some kind.RefcountBlock owner = omega arith
 code-some kind.L2Table owner = omega arith
 code-some kind.Compressed owner = omega arith
 code-some kind.Data owner = omega arith
 
 -- the number of guest data further on
-data-further : (guest count : ℕ) → cell_further (7 + guest) count ≡ 7 + (guest + count)
+data-further : (guest count : ℕ) → cell_further (8 + guest) count ≡ 8 + (guest + count)
 data-further guest count = grind (arith, nat_tests)
 
 -- the part further on in a run
@@ -72,6 +76,7 @@ pub further-decoded : (cb : ℕ) (k : UseKind) (owner count : ℕ) → decoded c
 further-decoded cb kind.Header owner count = refl
 further-decoded cb kind.L1Table owner count = refl
 further-decoded cb kind.RefcountTable owner count = refl
+further-decoded cb kind.EncryptionHeader owner count = refl
 further-decoded cb kind.RefcountBlock owner count = refl
 further-decoded cb kind.L2Table owner count = refl
 further-decoded cb kind.Compressed owner count = refl
@@ -80,13 +85,14 @@ further-decoded cb kind.Data owner count =
     ∙ ap (λ n. Data (record { 0 = n })) (add-mul owner count (2 ^ cb))
 
 -- and its number
-data-encoded : (cb guest : ℕ) → encoded cb (Data (record { 0 = guest * 2 ^ cb })) ≡ 7 + guest
-data-encoded cb guest = ap (λ n. 7 + n) (mul-div_cancel guest (pow_pos cb))
+data-encoded : (cb guest : ℕ) → encoded cb (Data (record { 0 = guest * 2 ^ cb })) ≡ 8 + guest
+data-encoded cb guest = ap (λ n. 8 + n) (mul-div_cancel guest (pow_pos cb))
 
 pub further-encoded : (cb : ℕ) (k : UseKind) (owner count : ℕ) → encoded cb (moved_part (count * 2 ^ cb) (part_of cb k owner)) ≡ cell_further (code_of k owner) count
 further-encoded cb kind.Header owner count = refl
 further-encoded cb kind.L1Table owner count = refl
 further-encoded cb kind.RefcountTable owner count = refl
+further-encoded cb kind.EncryptionHeader owner count = refl
 further-encoded cb kind.RefcountBlock owner count = refl
 further-encoded cb kind.L2Table owner count = refl
 further-encoded cb kind.Compressed owner count = refl
@@ -97,6 +103,7 @@ part-encoded : (cb : ℕ) (k : UseKind) (owner : ℕ) → encoded cb (part_of cb
 part-encoded cb kind.Header owner = refl
 part-encoded cb kind.L1Table owner = refl
 part-encoded cb kind.RefcountTable owner = refl
+part-encoded cb kind.EncryptionHeader owner = refl
 part-encoded cb kind.RefcountBlock owner = refl
 part-encoded cb kind.L2Table owner = refl
 part-encoded cb kind.Compressed owner = refl
@@ -153,18 +160,19 @@ data_fits cb guest low few =
     omega (arith, all)
 
 -- the part of a number that isn't one of the small ones
-pub data_part : (cb cell : ℕ) (used : Use) → cb ≤ 21 → 7 ≤ cell → IsOwned used → cell ≡ code_of used.kind used.owner
-    → Data (record { 0 = (cell - 7) * 2 ^ cb % 2 ^ 64 }) ≡ used_part cb used
+pub data_part : (cb cell : ℕ) (used : Use) → cb ≤ 21 → 8 ≤ cell → IsOwned used → cell ≡ code_of used.kind used.owner
+    → Data (record { 0 = (cell - 8) * 2 ^ cb % 2 ^ 64 }) ≡ used_part cb used
 data_part cb cell used low large owned is = by_kind used.kind used.owner owned is
   where
-    by_kind : (k : UseKind) (owner : ℕ) → owner < most_owners k → cell ≡ code_of k owner → Data (record { 0 = (cell - 7) * 2 ^ cb % 2 ^ 64 }) ≡ part_of cb k owner
+    by_kind : (k : UseKind) (owner : ℕ) → owner < most_owners k → cell ≡ code_of k owner → Data (record { 0 = (cell - 8) * 2 ^ cb % 2 ^ 64 }) ≡ part_of cb k owner
     by_kind kind.Header owner few code = absurd (omega (arith, code, large))
     by_kind kind.L1Table owner few code = absurd (omega (arith, code, large))
     by_kind kind.RefcountTable owner few code = absurd (omega (arith, code, large))
+    by_kind kind.EncryptionHeader owner few code = absurd (omega (arith, code, large))
     by_kind kind.RefcountBlock owner few code = absurd (omega (arith, code, large))
     by_kind kind.L2Table owner few code = absurd (omega (arith, code, large))
     by_kind kind.Compressed owner few code = absurd (omega (arith, code, large))
     by_kind kind.Data owner few code =
-        let guest : cell - 7 ≡ owner = omega (arith, code) in
-        let fits : (cell - 7) * 2 ^ cb < 2 ^ 64 = rw guest (data_fits cb owner low few) in
+        let guest : cell - 8 ≡ owner = omega (arith, code) in
+        let fits : (cell - 8) * 2 ^ cb < 2 ^ 64 = rw guest (data_fits cb owner low few) in
         ap (λ n. Data (record { 0 = n })) (mod-eq_of_lt fits ∙ ap (λ n. n * 2 ^ cb) guest)

@@ -3,7 +3,7 @@ use Rattle.std.specs.Int.{div_ceil}
 use Rattle.std.proofs.Math.Nat.{div-mul-le_self, le-div_iff_mul-le}
 use Rattle.qcow2_layout.specs.Layout.{moved_part}
 use Rattle.qcow2_layout.specs.declared.parts.Part.{Part}
-use Rattle.qcow2_layout.specs.declared.parts.Part.TheVariants.{Compressed, Data, Free, Header, L1Table, L2Table, Leaked, RefcountBlock, RefcountTable}
+use Rattle.qcow2_layout.specs.declared.parts.Part.TheVariants.{Compressed, Data, EncryptionHeader, Free, Header, L1Table, L2Table, Leaked, RefcountBlock, RefcountTable}
 use Rattle.qcow2_layout.specs.Picture.{shade_of}
 
 -- a quotient grows with its dividend
@@ -25,6 +25,7 @@ shade-grows size Header a b less = omega arith
 shade-grows size L1Table a b less = omega arith
 shade-grows size L2Table a b less = omega arith
 shade-grows size RefcountTable a b less = omega arith
+shade-grows size EncryptionHeader a b less = omega arith
 shade-grows size RefcountBlock a b less = omega arith
 shade-grows size Leaked a b less = omega arith
 

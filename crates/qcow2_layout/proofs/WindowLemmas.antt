@@ -79,20 +79,20 @@ row-outside first guest (suc n) c cell outside =
     let same : cell_after c cell (one_use Data (record { 0 = first }) 1 guest) ≡ cell = grind (arith, nat_tests, other) in
     ap (λ x. fold (cell_after c) x (row_list (first + 1) (guest + 1) n)) same ∙ row-outside (first + 1) (guest + 1) n c cell next
 
-row-inside : (first guest n c : ℕ) → first ≤ c → c < first + n → fold (cell_after c) 0 (row_list first guest n) ≡ 7 + guest + (c - first)
+row-inside : (first guest n c : ℕ) → first ≤ c → c < first + n → fold (cell_after c) 0 (row_list first guest n) ≡ 8 + guest + (c - first)
 row-inside first guest zero c from below = absurd (omega (arith, from, below))
 row-inside first guest (suc n) c from below =
     elim (cases_lt first c) [
       | inl later ↦
           let none : cell_after c 0 (one_use Data (record { 0 = first }) 1 guest) ≡ 0 = grind (arith, nat_tests, later) in
-          let sum : 7 + (guest + 1) + (c - (first + 1)) ≡ 7 + guest + (c - first) = omega (arith, later) in
+          let sum : 8 + (guest + 1) + (c - (first + 1)) ≡ 8 + guest + (c - first) = omega (arith, later) in
           ap (λ x. fold (cell_after c) x (row_list (first + 1) (guest + 1) n)) none
           ∙ row-inside (first + 1) (guest + 1) n c (omega (arith, later)) (omega (arith, below)) ∙ sum
       | inr here ↦
-          let some : cell_after c 0 (one_use Data (record { 0 = first }) 1 guest) ≡ 7 + guest = grind (arith, nat_tests, here, from) in
-          let sum : 7 + guest ≡ 7 + guest + (c - first) = omega (arith, here, from) in
+          let some : cell_after c 0 (one_use Data (record { 0 = first }) 1 guest) ≡ 8 + guest = grind (arith, nat_tests, here, from) in
+          let sum : 8 + guest ≡ 8 + guest + (c - first) = omega (arith, here, from) in
           ap (λ x. fold (cell_after c) x (row_list (first + 1) (guest + 1) n)) some
-          ∙ used-stays (row_list (first + 1) (guest + 1) n) c (7 + guest) (omega arith) ∙ sum
+          ∙ used-stays (row_list (first + 1) (guest + 1) n) c (8 + guest) (omega arith) ∙ sum
     ]
 
 row-owned : (first guest n : ℕ) → guest + n ≤ 2 ^ 40 → All IsOwned (row_list first guest n)
@@ -103,7 +103,7 @@ row-owned first guest (suc n) fits =
 
 -- 16 dense cells that are placed at once
 group-cell : (old new : TallyState) (first index guest c : ℕ) → old.first ≤ first → index ≡ first - old.first → old.first ≤ c
-    → new ≡ record old { dense = new.dense } → PlacesGroup index (7 + guest) old.dense new.dense
+    → new ≡ record old { dense = new.dense } → PlacesGroup index (8 + guest) old.dense new.dense
     → cell_at new c ≡ fold (cell_after c) (cell_at old c) (row_list first guest 16)
 group-cell old new first index guest c from at after same places =
     let first_same : new.first ≡ old.first = ap (λ (t : TallyState). t.first) same in
@@ -132,7 +132,7 @@ group-cell old new first index guest c from at after same places =
     ]
 
 pub group_places : (old new : TallyState) (first index guest : ℕ) → old.first ≤ first → index ≡ first - old.first → guest + 16 ≤ 2 ^ 40
-    → new ≡ record old { dense = new.dense } → PlacesGroup index (7 + guest) old.dense new.dense
+    → new ≡ record old { dense = new.dense } → PlacesGroup index (8 + guest) old.dense new.dense
     → PlacesMore (row_list first guest 16) old new
 group_places old new first index guest from at fits same places = record {
   owned = row-owned first guest 16 fits;

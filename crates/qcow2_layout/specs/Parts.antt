@@ -10,13 +10,14 @@ use Rattle.qcow2_check.specs.declared.uses.Use.{Use}
 use Rattle.qcow2_check.specs.declared.uses.UseKind.{UseKind}
 use Rattle.qcow2_check.specs.declared.uses.UseKind.TheVariants as kind
 use Rattle.qcow2_layout.specs.declared.parts.Part.{Part}
-use Rattle.qcow2_layout.specs.declared.parts.Part.TheVariants.{Compressed, Data, Free, Header, L1Table, L2Table, Leaked, RefcountBlock, RefcountTable}
+use Rattle.qcow2_layout.specs.declared.parts.Part.TheVariants.{Compressed, Data, EncryptionHeader, Free, Header, L1Table, L2Table, Leaked, RefcountBlock, RefcountTable}
 
 -- what clusters are that are used so: guest data by the offset of its guest cluster
 abbrev pub part_of : ℕ → UseKind → ℕ → Part
 part_of cb kind.Header owner = Header
 part_of cb kind.L1Table owner = L1Table
 part_of cb kind.RefcountTable owner = RefcountTable
+part_of cb kind.EncryptionHeader owner = EncryptionHeader
 part_of cb kind.RefcountBlock owner = RefcountBlock
 part_of cb kind.L2Table owner = L2Table
 part_of cb kind.Data owner = Data (record { 0 = owner * 2 ^ cb })
@@ -35,9 +36,9 @@ use_in (used ∷ uses) c = if is_among used.clusters c then Some used else use_i
 abbrev pub unused_part : ℕ → Part
 unused_part counter = if counter == 0 then Free else Leaked
 
--- what cluster c is of an image with these tables: the part of its first use in the order of the walk (header, tables, blocks,
--- L2 tables, and then the guest's disk in its order), so that tables win over guest data, and the lowest guest offset over others;
--- or leaked where its counter isn't reported as 0, or else free
+-- what cluster c is of an image with these tables: the part of its first use in the order of the walk (header, tables, encryption
+-- header, blocks, L2 tables, and then the guest's disk in its order), so that tables win over guest data, and the lowest guest
+-- offset over others; or leaked where its counter isn't reported as 0, or else free
 unfoldable pub part_at : ImageTables → Image → ℕ → Part
 part_at tables image c = elim (use_in (use_list tables image) c) [
   | Some used ↦ used_part tables.header.v2.cluster_bits used

@@ -7,18 +7,19 @@ use Rattle.qcow2_check.specs.Uses.{ImageTables}
 use Rattle.qcow2_layout.specs.Layout.{moved_part}
 use Rattle.qcow2_layout.specs.Parts.{part_at, taken_end}
 use Rattle.qcow2_layout.specs.declared.parts.Part.{Part}
-use Rattle.qcow2_layout.specs.declared.parts.Part.TheVariants.{Compressed, Data, Free, Header, L1Table, L2Table, Leaked, RefcountBlock, RefcountTable}
+use Rattle.qcow2_layout.specs.declared.parts.Part.TheVariants.{Compressed, Data, EncryptionHeader, Free, Header, L1Table, L2Table, Leaked, RefcountBlock, RefcountTable}
 use Rattle.qcow2_layout.specs.declared.parts.Run.{Run}
 use Rattle.qcow2_layout.specs.declared.picture.Shape.{Shape}
 
 -- the colour of a part, which is the greater the more severe it is: free clusters, guest data by the eighths of a disk of
--- this size, compressed data, header and mapping tables, refcounts, and leaked clusters
+-- this size, compressed data, headers and mapping tables, refcounts, and leaked clusters
 abbrev pub shade_of : ℕ → Part → ℕ
 shade_of size Free = 0
 shade_of size (Data offset) = 1 + min 7 (offset.0 / max 1 (div_ceil size 8))
 shade_of size Compressed = 9
 shade_of size Header = 10
 shade_of size L1Table = 10
+shade_of size EncryptionHeader = 10
 shade_of size L2Table = 10
 shade_of size RefcountTable = 11
 shade_of size RefcountBlock = 11

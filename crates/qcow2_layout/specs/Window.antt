@@ -9,7 +9,7 @@ use Rattle.qcow2_check.specs.Uses.{ImageTables}
 use Rattle.qcow2_check.specs.Walk.{IsOwned, use_list}
 use Rattle.qcow2_check.specs.declared.uses.Use.{Use}
 use Rattle.qcow2_check.specs.declared.uses.UseKind.{UseKind}
-use Rattle.qcow2_check.specs.declared.uses.UseKind.TheVariants.{Compressed, Data, Header, L1Table, L2Table, RefcountBlock, RefcountTable}
+use Rattle.qcow2_check.specs.declared.uses.UseKind.TheVariants.{Compressed, Data, EncryptionHeader, Header, L1Table, L2Table, RefcountBlock, RefcountTable}
 use Rattle.qcow2_layout.specs.Parts.{use_in}
 
 -- the number that stands in memory for what a use's clusters are: guest data goes by its guest cluster
@@ -17,10 +17,11 @@ abbrev pub code_of : UseKind → ℕ → ℕ
 code_of Header owner = 1
 code_of L1Table owner = 2
 code_of RefcountTable owner = 3
-code_of RefcountBlock owner = 4
-code_of L2Table owner = 5
-code_of Compressed owner = 6
-code_of Data owner = 7 + owner
+code_of EncryptionHeader owner = 4
+code_of RefcountBlock owner = 5
+code_of L2Table owner = 6
+code_of Compressed owner = 7
+code_of Data owner = 8 + owner
 
 -- the cell of a cluster with this first use: its number, or 0 where there is none
 abbrev pub cell_of : Option Use → ℕ
@@ -29,7 +30,7 @@ cell_of (Some used) = code_of used.kind used.owner
 
 -- the cell that many clusters after one with this cell, where they are one run: guest data goes on, and all else stays
 abbrev pub cell_further : ℕ → ℕ → ℕ
-cell_further cell count = if nat_lt cell 7 then cell else cell + count
+cell_further cell count = if nat_lt cell 8 then cell else cell + count
 
 -- the cell of cluster c after a use, which stays where a use before has the cluster
 abbrev pub cell_after : ℕ → ℕ → Use → ℕ

@@ -74,9 +74,9 @@ impl<'a> Layout<'a> {
     /// Reads the tables of an image with this header and all references to its first clusters, and returns a
     /// reader before the first run.
     ///
-    /// Returns the first of these faults: 37 if the image has snapshots, bitmaps or LUKS encryption, that of
-    /// the L1 table, that of the refcount table, 21 if a refcount block would end past 2^56, or that of an L2
-    /// table. Changes no byte.
+    /// Returns the first of these faults: 37 if `Header::uncounted_part` returns a part, that of the L1
+    /// table, that of the refcount table, 21 if a refcount block would end past 2^56, or that of an L2 table.
+    /// Changes no byte.
     pub fn new<S: Storage>(
         alloc: Global,
         image: &mut S,

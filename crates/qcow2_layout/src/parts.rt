@@ -12,10 +12,10 @@ use qcow2_base::{GuestOffset, HostCluster};
 use qcow2_check::UseKind;
 
 /// The code of compressed data.
-pub(crate) const COMPRESSED_CODE: u64 = 6;
+pub(crate) const COMPRESSED_CODE: u64 = 7;
 
 /// The code of guest data of guest cluster 0. The smaller numbers are codes of the other kinds.
-pub(crate) const DATA_CODE: u64 = 7;
+pub(crate) const DATA_CODE: u64 = 8;
 
 /// The code, in a cell, of a cluster whose first reference is of this kind.
 #[inline(always)]
@@ -27,8 +27,9 @@ pub(crate) fn code_of(kind: UseKind, owner: u64) -> u64
         UseKind::Header => 1,
         UseKind::L1Table => 2,
         UseKind::RefcountTable => 3,
-        UseKind::RefcountBlock => 4,
-        UseKind::L2Table => 5,
+        UseKind::EncryptionHeader => 4,
+        UseKind::RefcountBlock => 5,
+        UseKind::L2Table => 6,
         UseKind::Compressed => COMPRESSED_CODE,
         UseKind::Data => DATA_CODE + owner,
     }
@@ -44,6 +45,8 @@ pub enum Part {
     L1Table,
     /// Bytes of the refcount table.
     RefcountTable,
+    /// Bytes of the encryption header, which keeps the keys of LUKS.
+    EncryptionHeader,
     /// A refcount block that an entry of the refcount table names.
     RefcountBlock,
     /// An L2 table that an entry of the L1 table names.
@@ -84,9 +87,10 @@ impl Part {
             1 => Some(Part::Header),
             2 => Some(Part::L1Table),
             3 => Some(Part::RefcountTable),
-            4 => Some(Part::RefcountBlock),
-            5 => Some(Part::L2Table),
-            6 => Some(Part::Compressed),
+            4 => Some(Part::EncryptionHeader),
+            5 => Some(Part::RefcountBlock),
+            6 => Some(Part::L2Table),
+            7 => Some(Part::Compressed),
             _ => Some(Part::Data(GuestOffset((cell - DATA_CODE) << cluster_bits))),
         }
     }

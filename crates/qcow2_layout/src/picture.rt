@@ -188,7 +188,7 @@ fn shade_of(part: Part, bytes: u64, size: u64) -> u8
         Part::Free => 0,
         Part::Data(offset) => 1 + eighth_of(offset.0, bytes, size),
         Part::Compressed => 9,
-        Part::Header | Part::L1Table | Part::L2Table => 10,
+        Part::Header | Part::EncryptionHeader | Part::L1Table | Part::L2Table => 10,
         Part::RefcountTable | Part::RefcountBlock => 11,
         Part::Leaked => 12,
     }

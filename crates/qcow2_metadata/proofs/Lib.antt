@@ -5,6 +5,7 @@ pub mod BlockBytesLemmas
 pub mod ChainLemmas
 pub mod ClearedLemmas
 pub mod CopiedLemmas
+pub mod EncryptionHeaderLemmas
 pub mod EntriesLemmas
 pub mod ExtensionsLemmas
 pub mod FeatureNamesCutLemmas

@@ -1,13 +1,16 @@
-use Rattle.std.proofs.Common.{◌≡◌, All, ℕ, Bool, true, false, List, [], ◌∷◌, length, map, Option, Some, None, Ok, refl, ap, sym, ◌∙◌, subst, arith}
+use Rattle.std.proofs.Common.{◌≡◌, ◌⊎◌, inl, inr, All, ℕ, ◌==◌, Bool, true, false, not, if◌then◌else◌, List, [], ◌∷◌, length, map, Option, Some, None, option_map, Ok, refl, ap, sym, ◌∙◌, subst, arith}
 use Rattle.std.specs.Prelude.{◌↔◌, Err, IfOk, IsErrOf, Result}
 use Rattle.std.proofs.lemmas.Bool.Decides.{nat_tests}
 use Rattle.std.specs.List.{filter, list_any}
 use Rattle.qcow2_base.specs.Storage.{Holds, Image, OnImages, OnlyWrites, StorageState}
 use Rattle.qcow2_base.specs.declared.fault.Fault.{Fault}
-use Rattle.qcow2_base.specs.declared.fault.Fault.TheVariants.{Storage}
+use Rattle.qcow2_base.specs.declared.fault.Fault.TheVariants.{Storage, Uncounted}
+use Rattle.qcow2_base.specs.declared.fault.UncountedPart.{UncountedPart}
+use Rattle.qcow2_base.specs.declared.fault.UncountedPart.TheVariants.{Bitmaps, Encryption, Snapshots}
 use Rattle.qcow2_base.specs.declared.on_disk_struct.v2_header.V2Header.{V2Header}
 use Rattle.qcow2_base.specs.declared.on_disk_struct.v3_header_base.V3HeaderBase.{V3HeaderBase}
-use Rattle.qcow2_metadata.specs.Header.{Accepts, HeaderRecord, geometry_of, uncounted_part}
+use Rattle.qcow2_metadata.specs.Header.{Accepts, HeaderRecord, bitmaps_type, encryption_clusters, geometry_of, has_bitmaps, hides_keys, uncounted_part}
+use Rattle.qcow2_metadata.specs.Header.EncryptionHeader.{encryption_by, encryption_type}
 use Rattle.qcow2_metadata.specs.Header.Extensions.{Extension, IsStorable, is_unknown, normal_extension}
 use Rattle.qcow2_metadata.specs.Header.Grammar.{accepted_header}
 use Rattle.qcow2_metadata.specs.Header.Open.{BecomesWritable, SaysSame, header_after_load, is_rewritten, opened_text, without_autoclear}
@@ -23,6 +26,13 @@ pub SaysSame-after : (old between new : HeaderRecord) → SaysSame old between �
 SaysSame-after old between new first second = record {
   v2 = rw first.v2 at second.v2;
   base = rw first.base at second.base;
+  autoclear = elim second.autoclear [
+    | inr none ↦ inr none
+    | inl kept ↦ elim first.autoclear [
+      | inr none ↦ inr (kept ∙ none)
+      | inl same ↦ inl (kept ∙ same)
+    ]
+  ];
   backing_filename = second.backing_filename ∙ first.backing_filename;
   extensions = second.extensions ∙ first.extensions;
 }
@@ -35,6 +45,9 @@ v2_with_name-same v2 place (Some name) = refl
 base_with_length-same : (version : ℕ) (base : V3HeaderBase) (len : ℕ) → let new = base_with_length version base len in
     new ≡ record base { autoclear_features = new.autoclear_features; header_length = new.header_length }
 base_with_length-same version base len = grind (arith, nat_tests)
+
+autoclear-kept : (version : ℕ) (base : V3HeaderBase) (len : ℕ) → (base_with_length version base len).autoclear_features ≡ base.autoclear_features
+autoclear-kept version base len = grind (arith, nat_tests)
 
 -- of the extensions that are written, and that read back, those other than tables of feature names are the same
 others-other : (extensions : List Extension) → filter is_other (filter is_other extensions) ≡ filter is_other extensions
@@ -57,6 +70,7 @@ placed-same with_names header =
     record {
       v2 = v2_with_name-same header.v2 (name_place written) header.backing_filename;
       base = base_with_length-same header.v2.version header.base (header_end written);
+      autoclear = inl (autoclear-kept header.v2.version header.base (header_end written));
       backing_filename = refl;
       extensions = others-chosen with_names header.extensions;
     }
@@ -68,10 +82,10 @@ written-same header written is = grind (arith, nat_tests, placed-same true heade
 
 -- and as it reads back
 pub read_back-same : (header : HeaderRecord) → SaysSame header (header_read_back header)
-read_back-same header = record { v2 = refl; base = refl; backing_filename = refl; extensions = others-normal header.extensions }
+read_back-same header = record { v2 = refl; base = refl; autoclear = inl refl; backing_filename = refl; extensions = others-normal header.extensions }
 
-without_autoclear-same : (header : HeaderRecord) → SaysSame header (without_autoclear header)
-without_autoclear-same header = record { v2 = refl; base = refl; backing_filename = refl; extensions = refl }
+pub without_autoclear-same : (header : HeaderRecord) → SaysSame header (without_autoclear header)
+without_autoclear-same header = record { v2 = refl; base = refl; autoclear = inr refl; backing_filename = refl; extensions = refl }
 
 -- a header with autoclear features is written without them
 after-rewritten : (header : HeaderRecord) → is_rewritten true header ≡ true
@@ -92,7 +106,7 @@ writable-same header written is = by_autoclear (is_rewritten true header) refl
         SaysSame-after header (without_autoclear header) written (without_autoclear-same header) (written-same _ _ after)
     by_autoclear false stays =
         let same : header ≡ written = grind (arith, nat_tests) in
-        rw (← same) (record { v2 = refl; base = refl; backing_filename = refl; extensions = refl })
+        rw (← same) (record { v2 = refl; base = refl; autoclear = inl refl; backing_filename = refl; extensions = refl })
 
 -- has the same backing file's name
 pub writable-short : (header : HeaderRecord) (answer : Result HeaderRecord Fault) → is_short header.backing_filename ≡ true
@@ -162,12 +176,56 @@ any_unknown-same number old new same =
     sym (unknown-other number new.extensions) ∙ ap (list_any (is_unknown number)) same.extensions
     ∙ unknown-other number old.extensions
 
--- so an image has the same parts that aren't read here
-pub uncounted_part-same : (old new : HeaderRecord) → SaysSame old new → uncounted_part new ≡ uncounted_part old
-uncounted_part-same old new same =
+-- nor is an encryption header
+encryption-other : (cb : ℕ) (extensions : List Extension) → encryption_by cb (filter is_other extensions) ≡ encryption_by cb extensions
+encryption-other cb [] = refl
+encryption-other cb (extension ∷ extensions) =
+    grind (arith, nat_tests, encryption-other cb extensions, unknown-other encryption_type extensions)
+
+pub encryption_clusters-same : (old new : HeaderRecord) → SaysSame old new → encryption_clusters new ≡ encryption_clusters old
+encryption_clusters-same old new same =
+    let bits : new.v2.cluster_bits ≡ old.v2.cluster_bits = ap (λ (part : V2Header). part.cluster_bits) same.v2 in
+    rw bits (sym (encryption-other old.v2.cluster_bits new.extensions) ∙ ap (encryption_by old.v2.cluster_bits) same.extensions
+    ∙ encryption-other old.v2.cluster_bits old.extensions)
+
+-- so an image that has no part that isn't read here still has none: its bitmaps agree with the disk at most where they did
+bitmaps-same : (old new : HeaderRecord) → SaysSame old new → has_bitmaps old ≡ false → has_bitmaps new ≡ false
+bitmaps-same old new same none = by_autoclear same.autoclear
+  where
+    extensions : list_any (is_unknown bitmaps_type) new.extensions ≡ list_any (is_unknown bitmaps_type) old.extensions
+    extensions = any_unknown-same bitmaps_type old new same
+
+    by_autoclear : (new.base.autoclear_features ≡ old.base.autoclear_features) ⊎ (new.base.autoclear_features ≡ 0) → has_bitmaps new ≡ false
+    by_autoclear (inl kept) = rw (kept, extensions) none
+    by_autoclear (inr cleared) = rw cleared refl
+
+keys-same : (old new : HeaderRecord) → SaysSame old new → hides_keys new ≡ hides_keys old
+keys-same old new same =
+    let method : new.v2.crypt_method ≡ old.v2.crypt_method = ap (λ (part : V2Header). part.crypt_method) same.v2 in
+    rw (method, any_unknown-same encryption_type old new same, encryption_clusters-same old new same) refl
+
+no-parts : (unsaved bitmaps keys : Bool)
+    → (if not unsaved then Some Snapshots else if bitmaps then Some Bitmaps else if keys then Some Encryption else None) ≡ None
+    → (unsaved ≡ true) × (bitmaps ≡ false) × (keys ≡ false)
+no-parts true false false is = (refl, refl, refl)
+no-parts true false true is = grind (arith, is)
+no-parts true true keys is = grind (arith, is)
+no-parts false bitmaps keys is = grind (arith, is)
+
+uncounted_part-none : (old new : HeaderRecord) → SaysSame old new → uncounted_part old ≡ None → uncounted_part new ≡ None
+unfolding uncounted_part
+uncounted_part-none old new same none =
     let snapshots : new.v2.nb_snapshots ≡ old.v2.nb_snapshots = ap (λ (part : V2Header). part.nb_snapshots) same.v2 in
-    let encryption : new.v2.crypt_method ≡ old.v2.crypt_method = ap (λ (part : V2Header). part.crypt_method) same.v2 in
-    rw (snapshots, encryption, any_unknown-same 0x23852875 old new same, any_unknown-same 0x0537be77 old new same) refl
+    let each = no-parts (old.v2.nb_snapshots == 0) (has_bitmaps old) (hides_keys old) none in
+    rw (uncounted_part, snapshots, each.0, bitmaps-same old new same each.1, keys-same old new same, each.2) refl
+
+pub uncounted-none : (old new : HeaderRecord) → SaysSame old new → option_map Uncounted (uncounted_part old) ≡ None
+    → option_map Uncounted (uncounted_part new) ≡ None
+uncounted-none old new same none = by_part (uncounted_part old) refl
+  where
+    by_part : (part : Option UncountedPart) → uncounted_part old ≡ part → option_map Uncounted (uncounted_part new) ≡ None
+    by_part None is = ap (option_map Uncounted) (uncounted_part-none old new same is)
+    by_part (Some part) is = absurd (grind (arith, none, is))
 
 -- and the same geometry
 pub geometry-same : (old new : HeaderRecord) → SaysSame old new → geometry_of new ≡ geometry_of old

@@ -1,6 +1,7 @@
 -- What does the header of an image say, and which header does a new image have?
 pub mod BitmapCount
 pub mod Chain
+pub mod EncryptionHeader
 pub mod Extensions
 pub mod Features
 pub mod Grammar
@@ -20,10 +21,14 @@ use Rattle.qcow2_base.specs.declared.fault.UncountedPart.{UncountedPart}
 use Rattle.qcow2_base.specs.declared.fault.UncountedPart.TheVariants.{Bitmaps, Encryption, Snapshots}
 use Rattle.qcow2_base.specs.declared.on_disk_struct.v2_header.V2Header.{V2Header}
 use Rattle.qcow2_base.specs.declared.on_disk_struct.v3_header_base.V3HeaderBase.{V3HeaderBase}
+use Rattle.qcow2_base.specs.declared.types.ClusterCount.{ClusterCount}
+use Rattle.qcow2_base.specs.declared.types.HostCluster.{HostCluster}
+use Rattle.qcow2_metadata.specs.Header.EncryptionHeader.{encryption_by, encryption_type}
 use Rattle.qcow2_metadata.specs.Header.Extensions.{Extension, FeatureNameTable, FeatureNames, IsStorable, is_unknown, TextOf, name_in}
-use Rattle.qcow2_metadata.specs.Header.Features.{incompatible_bit}
+use Rattle.qcow2_metadata.specs.Header.Features.{autoclear_bit, incompatible_bit}
 use Rattle.qcow2_metadata.specs.declared.header.extensions.HeaderExtensionType.TheVariants as kind
 use Rattle.qcow2_metadata.specs.declared.header.features.AcceptedFeatures.{AcceptedFeatures}
+use Rattle.qcow2_metadata.specs.declared.header.features.AutoclearFeatures.TheVariants as autoclear
 use Rattle.qcow2_metadata.specs.declared.header.features.FeatureType.TheVariants.{Incompatible, Compatible, Autoclear}
 use Rattle.qcow2_metadata.specs.declared.header.features.IncompatibleFeatures.{IncompatibleFeatures}
 use Rattle.qcow2_metadata.specs.declared.header.features.IncompatibleFeatures.TheVariants.{CompressionType, Corrupt, Dirty, ExternalDataFile}
@@ -109,16 +114,34 @@ pub record Accepts (accepted : AcceptedFeatures) (base : V3HeaderBase) (unknown_
   pub features : other_features accepted base ≡ 0
   pub compression : accepted.compression_type ≡ true → is_compression base unknown_header_fields ≡ true
 
+-- the type of the extension that says where bitmaps lie
+abbrev pub bitmaps_type : ℕ
+bitmaps_type = 0x23852875
+
 -- the kind of encryption that is called LUKS. It keeps its keys in clusters, and later kinds may do so too
 abbrev pub luks_method : ℕ
 luks_method = 2
 
+-- the clusters of the encryption header: the first and how many, as an extension names them
+abbrev pub encryption_clusters : HeaderRecord → Option (HostCluster × ClusterCount)
+encryption_clusters header = encryption_by header.v2.cluster_bits header.extensions
+
+-- whether an image has bitmaps that agree with its disk. Others refer to nothing
+abbrev pub has_bitmaps : HeaderRecord → Bool
+has_bitmaps header = field header.base.autoclear_features (autoclear_bit autoclear.Bitmaps) 1 == 1
+    && list_any (is_unknown bitmaps_type) header.extensions
+
+-- whether it may keep keys in clusters that are none of its encryption header's
+abbrev pub hides_keys : HeaderRecord → Bool
+hides_keys header = (nat_le luks_method header.v2.crypt_method || list_any (is_unknown encryption_type) header.extensions)
+    && not (header.v2.crypt_method == luks_method && is_some (encryption_clusters header))
+
 -- the first part of an image that refers to clusters and that isn't read here, if it has one
-abbrev pub uncounted_part : HeaderRecord → Option UncountedPart
+unfoldable pub uncounted_part : HeaderRecord → Option UncountedPart
 uncounted_part header =
     if not (header.v2.nb_snapshots == 0) then Some Snapshots
-    else if list_any (is_unknown 0x23852875) header.extensions then Some Bitmaps
-    else if nat_le luks_method header.v2.crypt_method || list_any (is_unknown 0x0537be77) header.extensions then Some Encryption
+    else if has_bitmaps header then Some Bitmaps
+    else if hides_keys header then Some Encryption
     else None
 
 -- what features are called in new images

@@ -8,6 +8,7 @@ ghost use Rattle.qcow2_metadata.specs.Header.{new_header};
 mod backing_filename;
 mod bitmap_count;
 mod bytes;
+mod encryption_header;
 mod extensions;
 mod feature_names;
 mod features;
@@ -21,6 +22,7 @@ mod update;
 mod write;
 
 use bitmap_count::{BITMAPS, first_bitmap_count};
+use encryption_header::{ENCRYPTION, LUKS, encryption_clusters};
 use extensions::has_unknown;
 pub use extensions::{HeaderExtension, HeaderExtensionType};
 use feature_names::known_names;
@@ -30,17 +32,11 @@ pub use features::{
 };
 use names::{compression_type, first_name, has_feature};
 use qcow2_base::{
-    ClusterCount, EXTERNAL_DATA_FILE_BIT, Fault, HostOffset, MAGIC, UncountedPart, V2Header,
-    V3HeaderBase,
+    ClusterCount, EXTERNAL_DATA_FILE_BIT, Fault, HostCluster, HostOffset, MAGIC, UncountedPart,
+    V2Header, V3HeaderBase,
 };
 use std::alloc::Global;
 use std::marker::Model;
-
-// The type of the extension that points to the encryption header.
-const ENCRYPTION: u32 = 0x0537be77;
-
-// The encryption method LUKS, which keeps its keys in clusters. Later methods may do so too.
-const LUKS: u32 = 2;
 
 /// The header of an image in memory. In contracts it is its record.
 #[derive(Debug, Drop)]
@@ -79,7 +75,7 @@ impl Model for Header {
 
 impl Header {
     ghost use Rattle.std.specs.Prelude.{◌-◌, ◌*◌, ◌<◌};
-    ghost use Rattle.qcow2_metadata.specs.Header.{IsValidHeader, first_by, new_header, uncounted_part, uses_external_data};
+    ghost use Rattle.qcow2_metadata.specs.Header.{IsValidHeader, encryption_clusters, first_by, has_bitmaps, hides_keys, new_header, uncounted_part, uses_external_data};
     ghost use Rattle.qcow2_metadata.specs.Header.BitmapCount.{consistent_bitmaps};
     ghost use Rattle.qcow2_metadata.specs.Header.Extensions.{feature_name_in, name_in};
     ghost use Rattle.qcow2_metadata.specs.declared.header.extensions.HeaderExtensionType.TheVariants as kind;
@@ -316,21 +312,48 @@ impl Header {
         None
     }
 
+    /// Returns the clusters of the encryption header, which keeps the keys of LUKS: the first of them and
+    /// their number, by the one extension of type 0x0537be77. Its data are 16 bytes: the offset, a multiple
+    /// of the cluster size, and the length in bytes, at most 32 MiB. `None` without such an extension, with
+    /// several, or if the bytes would end past 2^56.
+    pub fn encryption_clusters(&self) -> Option<(HostCluster, ClusterCount)>
+        ensures { result ≡ encryption_clusters self.now }
+    {
+        encryption_clusters(&self.extensions, self.v2.cluster_bits)
+    }
+
     /// Returns the first part of the image that refers to clusters and that these crates don't read, if it
-    /// has one: snapshots, bitmaps, or encryption with keys in clusters. An extension shows the last two; a
-    /// `crypt_method` of 2 (LUKS) or more shows encryption too. Extensions of version 2 aren't read, so there
-    /// only the header fields show a part.
+    /// has one: snapshots, bitmaps that agree with the disk, or encryption with keys in clusters that
+    /// `encryption_clusters` doesn't tell. Bitmaps whose autoclear bit is clear are stale, and refer to
+    /// nothing. A `crypt_method` of 2 (LUKS) or more shows encryption, and an extension without that method
+    /// too. Extensions of version 2 aren't read, so there only the header fields show a part.
+    #[tactic(auto, using(crate::proofs::EncryptionHeaderLemmas::uncounted_is))]
     pub fn uncounted_part(&self) -> Option<UncountedPart>
         ensures { result ≡ uncounted_part self.now }
     {
         if self.v2.nb_snapshots != 0 {
             return Some(UncountedPart::Snapshots);
         }
-        if has_unknown(&self.extensions, BITMAPS) {
+        if self.has_bitmaps() {
             return Some(UncountedPart::Bitmaps);
         }
+        self.hides_keys().then_some(UncountedPart::Encryption)
+    }
+
+    // Whether the image has bitmaps that agree with the disk.
+    fn has_bitmaps(&self) -> bool
+        ensures { result ≡ has_bitmaps self.now }
+    {
+        self.base.autoclear_features & 1 == 1 && has_unknown(&self.extensions, BITMAPS)
+    }
+
+    // Whether the image may keep keys in clusters that are none of its encryption header's.
+    fn hides_keys(&self) -> bool
+        ensures { result ≡ hides_keys self.now }
+    {
         let has_keys = LUKS <= self.v2.crypt_method || has_unknown(&self.extensions, ENCRYPTION);
-        has_keys.then_some(UncountedPart::Encryption)
+        let is_placed = self.v2.crypt_method == LUKS && self.encryption_clusters().is_some();
+        has_keys && !is_placed
     }
 
     /// Returns the number of persistent bitmaps that agree with the disk: the number in the bitmaps

@@ -1,6 +1,7 @@
 //! Tests of headers, their features, and their bytes as loaded and written.
 
 mod accepted_features;
+mod encryption_header;
 mod features;
 mod fixtures;
 mod header_load;

@@ -11,7 +11,7 @@ use Rattle.qcow2_base.specs.declared.fault.Fault.TheVariants.{Uncounted}
 use Rattle.qcow2_base.specs.declared.types.HostCluster.{HostCluster}
 use Rattle.qcow2_metadata.proofs.CopiedLemmas.{l1_fault-with_copied}
 use Rattle.qcow2_metadata.proofs.TableLemmas.{full_cluster, no_fault_at_all, table_numbers_same}
-use Rattle.qcow2_metadata.proofs.WritableLemmas.{uncounted_part-same, writable-same}
+use Rattle.qcow2_metadata.proofs.WritableLemmas.{uncounted-none, writable-same}
 use Rattle.qcow2_metadata.specs.Entries.L1Entry.{l1_fault}
 use Rattle.qcow2_metadata.specs.Header.{HeaderRecord, IsValidHeader, uncounted_part}
 use Rattle.qcow2_metadata.specs.Header.Marks.{without_marks}
@@ -266,13 +266,18 @@ cleared-load header left reftable old new is clears loads =
           past-first (2 ^ header.v2.cluster_bits) 80 o old new fits outside (reftable-past-first tables old o is within));
     }
 
+-- a header without marks has the same part that isn't counted
+uncounted-unmarked : (header : HeaderRecord) → uncounted_part (without_marks header) ≡ uncounted_part header
+unfolding uncounted_part
+uncounted-unmarked header = refl
+
 -- an image that can be checked before the end of a repair can be after it
 ended-checked : (nothing : Bool) (header left : HeaderRecord) (reftable : List ℕ) (old new : Image) → option_map Uncounted (uncounted_part header) ≡ None
     → IsRepairable (tables_in header reftable old) old → TablesLoad header reftable old → EndsMarks nothing header left old new
     → checked_tables left new ≡ Ok (tables_in left reftable new)
 ended-checked false header left reftable old new counted is loads ends = rw (ends.0, ends.1) (load-checked header reftable old counted is loads)
 ended-checked true header left reftable old new counted is loads ends =
-    rw ends.becomes (load-checked (without_marks header) reftable new counted (repairable-cleared header left reftable old new is ends)
+    rw ends.becomes (load-checked (without_marks header) reftable new (ap (option_map Uncounted) (uncounted-unmarked header) ∙ counted) (repairable-cleared header left reftable old new is ends)
     (cleared-load header left reftable old new is ends loads))
 
 -- a repaired image can be checked
@@ -286,6 +291,6 @@ checkable-repaired nothing header written left tables old passed new valid bytes
     let repair = has.3 in
     let start = repairable-found-written header written tables old mid valid bytes is makes in
     let says : SaysSame header written = writable-same header written makes.becomes in
-    let counted = ap (option_map Uncounted) (uncounted_part-same header written says) ∙ (checked-found header old tables is).counted in
+    let counted = uncounted-none header written says (checked-found header old tables is).counted in
     ended-checked nothing written left tables.reftable passed new counted (stages written tables.reftable mid passed repair start).four.is
     (repaired-load written tables.reftable mid passed start repair (written-load header written tables old mid valid bytes is makes)) ends

@@ -1,28 +1,32 @@
-use Rattle.std.proofs.Common.{◌≡◌, ◌≢◌, ◌⊎◌, ℕ, Bool, IsTrue, true, false, ◌+◌, ◌*◌, ◌/◌, ◌^◌, ◌<◌, ◌≤◌, List, [], ◌∷◌, ◌++◌, flat_map, length, slice_index, Option, Some, None, Result, Ok, Err, ap, refl, sym, subst, ◌∙◌, inl, inr, arith}
+use Rattle.std.proofs.Common.{◌≡◌, ◌≢◌, ◌⊎◌, ℕ, Bool, IsTrue, true, false, ◌+◌, ◌*◌, ◌/◌, ◌^◌, ◌<◌, ◌≤◌, List, [], ◌∷◌, ◌++◌, flat_map, length, slice_index, unwrap_or, IsSome, Option, Some, None, Result, Ok, Err, ap, refl, sym, subst, ◌∙◌, inl, inr, arith}
 use Rattle.std.proofs.lemmas.Bool.{cases_lt}
 use Rattle.std.proofs.lemmas.Bool.Decides.{nat_tests}
 use Rattle.std.proofs.lemmas.Grind.{div_ceil_times}
 use Rattle.std.proofs.lemmas.Nat.{pow_pos}
 use Rattle.std.proofs.Math.Nat.{div-eq_of_lt, le-div_iff_mul-le}
 use Rattle.std.specs.Int.{div_ceil}
+use Rattle.qcow2_base.specs.Format.{max_file_length}
 use Rattle.qcow2_base.specs.Storage.{Image, OnImage, OnlyReads, OnlyWrites, SameOutside, StorageState}
 use Rattle.qcow2_base.specs.declared.fault.Fault.{Fault}
+use Rattle.qcow2_base.specs.declared.types.ClusterCount.{ClusterCount}
 use Rattle.qcow2_base.specs.declared.types.HostCluster.{HostCluster}
 use Rattle.qcow2_metadata.proofs.TableLemmas.{table_numbers_same}
+use Rattle.qcow2_metadata.proofs.WritableLemmas.{encryption_clusters-same}
 use Rattle.qcow2_metadata.proofs.WriteLemmas.{header_text-placed}
 use Rattle.qcow2_metadata.specs.Header.{HeaderRecord, geometry_of}
 use Rattle.qcow2_metadata.specs.Header.Open.{BecomesWritable, IsWritableFault, SaysSame, is_rewritten, opened_text, without_autoclear}
 use Rattle.qcow2_metadata.specs.Placed.{place_fault}
+use Rattle.qcow2_metadata.specs.Refblock.{greatest_counter}
 use Rattle.qcow2_metadata.specs.Results.{IsFromOutside}
 use Rattle.qcow2_metadata.specs.Table.{IsTableFault, TableState}
 use Rattle.qcow2_metadata.specs.Header.Text.{chosen_text, header_after_write, header_text, header_to_write}
 use Rattle.qcow2_summary.proofs.ApartLemmas.{first-used, header-used, kind-append, l1-first-used, named-below, named-used}
 use Rattle.qcow2_check.proofs.FindingsLemmas.{excludes, uses_by_kind}
 use Rattle.qcow2_check.specs.Findings.{is_shared, uses_of_kind}
-use Rattle.qcow2_check.specs.NamedTables.{l1_cluster, l1_layout, loaded_l1_table, named_block, named_cluster}
+use Rattle.qcow2_check.specs.NamedTables.{l1_cluster, l1_layout, loaded_l1_table, named_block, named_cluster, reftable_cluster}
 use Rattle.qcow2_check.specs.Counters.{block_of_cluster, blocks_fault, counter_of}
-use Rattle.qcow2_check.specs.Tally.{used_clusters}
-use Rattle.qcow2_check.specs.Uses.{ImageTables, block_uses, entry_uses, header_uses, image_tables, image_uses, l1_entry_uses}
+use Rattle.qcow2_check.specs.Tally.{ClusterUse, used_clusters}
+use Rattle.qcow2_check.specs.Uses.{ImageTables, block_uses, entry_uses, header_uses, image_tables, image_uses, key_clusters, l1_entry_uses, uses_of}
 use Rattle.qcow2_check.specs.declared.tally.TallyKind.TheVariants.{Fixed, L2Table}
 use Rattle.qcow2_repair.proofs.CountersLemmas.{block-same}
 use Rattle.qcow2_repair.proofs.OrderLemmas.{fixed-both}
@@ -154,19 +158,45 @@ repairable-by tables old new is stays =
       fits = rw same is.fits;
     }
 
--- and by a header that says the same
+-- a header that says the same names the same encryption header
+keys-said : (header written : HeaderRecord) → SaysSame header written → key_clusters written ≡ key_clusters header
+unfolding key_clusters
+keys-said header written says =
+    ap (λ named. unwrap_or named (record { 0 = 0 }, record { 0 = 0 })) (encryption_clusters-same header written says)
+
+-- what an image uses by a header and the clusters of an encryption header
+abbrev uses-with : HostCluster × ClusterCount → HeaderRecord → List ℕ → List ℕ → Image → List ClusterUse
+uses-with keys header l1 reftable image = (
+    used_clusters Fixed (record { 0 = 0 }) 1
+    ∷ used_clusters Fixed (l1_cluster header) (div_ceil (8 * header.v2.l1_size) (2 ^ header.v2.cluster_bits))
+    ∷ used_clusters Fixed (reftable_cluster header) header.v2.refcount_table_clusters
+    ∷ used_clusters Fixed keys.0 keys.1.0 ∷ []
+    ) ++ flat_map (block_uses header.v2.cluster_bits) reftable ++ flat_map (l1_entry_uses (geometry_of header) image) l1
+
+-- and an image can be repaired by a header that says the same
 repairable-said : (header written : HeaderRecord) (l1 reftable : List ℕ) (image : Image) → SaysSame header written
     → IsRepairable (image_tables header l1 reftable) image → IsRepairable (image_tables written l1 reftable) image
 repairable-said header written l1 reftable image says is =
     let v2 = record header.v2 { backing_file_offset = written.v2.backing_file_offset; backing_file_size = written.v2.backing_file_size } in
     let base = record header.base { autoclear_features = written.base.autoclear_features; header_length = written.base.header_length } in
-    let here : IsRepairable (image_tables (record written { v2 = v2; base = base }) l1 reftable) image = record {
+    let twin : HeaderRecord = record written { v2 = v2; base = base } in
+    let says_twin : SaysSame header twin = record {
+      v2 = refl;
+      base = refl;
+      autoclear = says.autoclear;
+      backing_filename = says.backing_filename;
+      extensions = says.extensions;
+    } in
+    let same : image_uses (image_tables header l1 reftable) image ≡ image_uses (image_tables twin l1 reftable) image =
+    ap (λ keys. uses-with keys header l1 reftable image) (sym (keys-said header twin says_twin)) in
+    let here : IsRepairable (image_tables twin l1 reftable) image = record {
       bits = is.bits;
       orders = is.orders;
       placed = is.placed;
       loads = is.loads;
-      apart = is.apart;
-      fits = is.fits;
+      apart = subst (λ uses. (c : ℕ) → c < max_file_length → is_shared uses c ≡ false) same is.apart;
+      fits = subst (λ uses. (c : ℕ) → c < max_file_length → IsSome (block_of_cluster header reftable c)
+          → uses_of uses c ≤ greatest_counter header.base.refcount_order) same is.fits;
     } in
     subst (λ part. IsRepairable (image_tables (record written { v2 = part }) l1 reftable) image) (sym says.v2)
     (subst (λ part. IsRepairable (image_tables (record written { v2 = v2; base = part }) l1 reftable) image) (sym says.base) here)
@@ -210,8 +240,10 @@ repairable-written header written l1 reftable len before mid says is numbers out
 uses-said : (header written : HeaderRecord) (l1 reftable : List ℕ) (image : Image) → SaysSame header written
     → image_uses (image_tables written l1 reftable) image ≡ image_uses (image_tables header l1 reftable) image
 uses-said header written l1 reftable image says =
-    subst (λ base. image_uses (image_tables (record written { base = base }) l1 reftable) image ≡ image_uses (image_tables header l1 reftable) image) (sym says.base)
-    (subst (λ v2. image_uses (image_tables (record written { v2 = v2; base = record header.base { autoclear_features = written.base.autoclear_features; header_length = written.base.header_length } }) l1 reftable) image ≡ image_uses (image_tables header l1 reftable) image) (sym says.v2) refl)
+    let uses = uses-with (key_clusters header) in
+    ap (λ keys. uses-with keys written l1 reftable image) (keys-said header written says)
+    ∙ subst (λ base. uses (record written { base = base }) l1 reftable image ≡ uses header l1 reftable image) (sym says.base)
+    (subst (λ v2. uses (record written { v2 = v2; base = record header.base { autoclear_features = written.base.autoclear_features; header_length = written.base.header_length } }) l1 reftable image ≡ uses header l1 reftable image) (sym says.v2) refl)
 
 counter-said : (header written : HeaderRecord) (reftable : List ℕ) (image : Image) (c : ℕ) → SaysSame header written
     → counter_of written reftable image c ≡ counter_of header reftable image c

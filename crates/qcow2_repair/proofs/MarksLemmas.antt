@@ -1,4 +1,4 @@
-use Rattle.std.proofs.Common.{◌≡◌, ℕ, false, ◌≤◌, ◌<◌, ◌^◌, List, ◌++◌, flat_map, IsSome, Ok, ap, refl, sym, subst, pow_mono, arith}
+use Rattle.std.proofs.Common.{◌≡◌, ℕ, false, ◌≤◌, ◌<◌, ◌^◌, List, ◌++◌, flat_map, IsSome, Ok, ap, inl, refl, sym, subst, pow_mono, arith}
 use Rattle.qcow2_base.specs.Format.{max_file_length}
 use Rattle.qcow2_base.specs.Storage.{Image, SameOutside}
 use Rattle.qcow2_base.specs.Types.{IsClusterBits}
@@ -9,7 +9,7 @@ use Rattle.qcow2_metadata.specs.Header.Open.{SaysSame}
 use Rattle.qcow2_metadata.specs.Refblock.{greatest_counter}
 use Rattle.qcow2_check.specs.Counters.{block_of_cluster}
 use Rattle.qcow2_check.specs.Findings.{is_shared}
-use Rattle.qcow2_check.specs.Uses.{all_load, block_uses, header_uses, image_tables, image_uses, l1_entry_uses, uses_of}
+use Rattle.qcow2_check.specs.Uses.{all_load, block_uses, header_uses, image_tables, image_uses, key_clusters, l1_entry_uses, uses_of}
 use Rattle.qcow2_repair.proofs.HeaderLemmas.{repairable-written}
 use Rattle.qcow2_repair.specs.Flags.{l1_in}
 use Rattle.qcow2_repair.specs.Repair.{ClearsMarks, IsRepairable, tables_in}
@@ -28,11 +28,12 @@ within-first old new others = record {
 
 -- each header says the same as itself
 says-self : (header : HeaderRecord) → SaysSame header header
-says-self header = record { v2 = refl; base = refl; backing_filename = refl; extensions = refl }
+says-self header = record { v2 = refl; base = refl; autoclear = inl refl; backing_filename = refl; extensions = refl }
 
 -- an image uses the same clusters by a header without marks
 pub uses-unmarked : (header : HeaderRecord) (l1 reftable : List ℕ) (image : Image)
     → image_uses (image_tables (without_marks header) l1 reftable) image ≡ image_uses (image_tables header l1 reftable) image
+unfolding key_clusters
 uses-unmarked header l1 reftable image = ap
     (λ (g : Geometry). header_uses header ++ flat_map (block_uses header.v2.cluster_bits) reftable ++ flat_map (l1_entry_uses g image) l1)
     (unmarked-geometry header)

@@ -123,8 +123,9 @@ fn unrefused_tables<S: Device>(
     Ok((l1_table, reftable, tally, leaves_nothing))
 }
 
-/// Refuses an image that can't be repaired whatever its tables say: one with snapshots, bitmaps or LUKS
-/// encryption (fault 37), or with an L1 table that is too short for its disk (fault 41).
+/// Refuses an image that can't be repaired whatever its tables say: one with a part that
+/// `Header::uncounted_part` returns (fault 37), or with an L1 table that is too short for its disk (fault
+/// 41).
 pub fn refuse_unrepairable(header: &Header) -> Result<(), Fault>
     ensures { result ≡ unless_refused (header_refusal header.now) (Ok tt) }
 {

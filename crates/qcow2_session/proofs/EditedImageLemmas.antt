@@ -4,6 +4,7 @@ use Rattle.qcow2_metadata.specs.Header.{HeaderRecord, IsValidHeader, geometry_of
 use Rattle.qcow2_metadata.specs.Header.Grammar.{header_of}
 use Rattle.qcow2_metadata.specs.Results.{and_then, result_map}
 use Rattle.qcow2_check.specs.NamedTables.{loaded_l1_table}
+use Rattle.qcow2_check.specs.Uses.{key_clusters}
 use Rattle.qcow2_image.specs.Lookups.{guest_mapping, image_mapping, mapping_in}
 use Rattle.qcow2_summary.proofs.ReportedLemmas.{AreUnshared}
 use Rattle.qcow2_apply.proofs.ApartLemmas.{apart-unshared}
@@ -23,6 +24,7 @@ pub image-reads-as-left : (header : HeaderRecord) (edits : List GuestEdit) (plan
     → IsPlanOf header edits old plan → FollowsPlan header edits plan (Ok tt) old new → AreUnshared (tables_by header plan) old
     → ArePlacesApart (l2_tables_of (tables_by header plan)) → (o : ℕ)
     → mapping_in header o new ≡ result_map (mapping_left header.v2.cluster_bits o edits) (mapping_in header o old)
+unfolding key_clusters
 image-reads-as-left header edits plan old new valid for of follows apart places o =
     let g = geometry_of header in
     let l1 = plan.l1_table.numbers in
@@ -39,6 +41,7 @@ pub bytes-read-as-left : (header : HeaderRecord) (edits : List GuestEdit) (plan 
     → FollowsPlan header edits plan (Ok tt) old new → AreUnshared (tables_by header plan) old
     → ArePlacesApart (l2_tables_of (tables_by header plan)) → (o : ℕ)
     → image_mapping o new ≡ result_map (mapping_left header.v2.cluster_bits o edits) (image_mapping o old)
+unfolding key_clusters
 bytes-read-as-left header edits plan old new is keeps valid for of follows apart places o =
     let all = apart-unshared (plan_tables header plan) old apart for.blocks places in
     ap (λ found. and_then found (λ header. mapping_in header o new)) (header-left header edits plan old new is keeps follows all)

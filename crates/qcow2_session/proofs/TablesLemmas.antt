@@ -1,4 +1,4 @@
-use Rattle.std.proofs.Common.{◌≡◌, ℕ, zero, suc, ◌+◌, ◌-◌, ◌*◌, ◌^◌, ◌<◌, ◌≤◌, List, [], ◌∷◌, ◌++◌, drop, flat_map, get_or, length, map, set, take, Result, Ok, IsTrue, ap, refl, sym, ◌∙◌, arith}
+use Rattle.std.proofs.Common.{◌≡◌, ℕ, zero, suc, Bool, true, false, ◌==◌, ◌+◌, ◌-◌, ◌*◌, ◌^◌, ◌<◌, ◌≤◌, List, [], ◌∷◌, ◌++◌, drop, flat_map, get_or, length, map, set, take, Result, Ok, IsTrue, ap, refl, sym, ◌∙◌, arith}
 use native.Mathlib.Numerals.{unary_clauses}
 use Rattle.std.proofs.Math.Pow.{pow_mono}
 use Rattle.std.proofs.lemmas.Grind.{flat_map-append}
@@ -17,7 +17,7 @@ use Rattle.qcow2_check.specs.declared.uses.UseKind.TheVariants as kind
 use Rattle.qcow2_metadata.specs.Header.{HeaderRecord}
 use Rattle.qcow2_metadata.specs.Results.{and_then, result_map}
 use Rattle.qcow2_session.proofs.PrintingLemmas.{prints_no-more, then_prints}
-use Rattle.qcow2_session.specs.Commands.Tables.{AddsRows, RowsState, counted_row, counting_row, image_rows, mapping_row, rows_of}
+use Rattle.qcow2_session.specs.Commands.Tables.{AddsRows, RowsState, counted_row, counting_row, image_rows, key_rows, mapping_row, rows_of}
 use Rattle.qcow2_session.specs.declared.commands.tables.TableLine.{TableLine}
 
 -- what an L2 table maps begins at an offset that fits 64 bits
@@ -74,11 +74,17 @@ rows-more x image mid old now rows so_far i default row below told reads kept ex
 counted-row : (header : HeaderRecord) (counter : ℕ → ℕ) (used : Use) → map (counted_row counter) (mapping_row header (λ c. 0) used) ≡ mapping_row header counter used
 counted-row header counter used = by_kind used.kind refl
   where
+    keys-counted : (none : Bool) → used.clusters.count.0 == 0 ≡ none
+        → map (counted_row counter) (key_rows used.clusters.first used.clusters.count.0) ≡ key_rows used.clusters.first used.clusters.count.0
+    keys-counted true is = rw is refl
+    keys-counted false is = rw is refl
+
     by_kind : (k : UseKind) → used.kind ≡ k → map (counted_row counter) (mapping_row header (λ c. 0) used) ≡ mapping_row header counter used
     by_kind kind.L2Table is = rw is refl
     by_kind kind.Header is = rw is refl
     by_kind kind.L1Table is = rw is refl
     by_kind kind.RefcountTable is = rw is refl
+    by_kind kind.EncryptionHeader is = rw is (keys-counted (used.clusters.count.0 == 0) refl)
     by_kind kind.RefcountBlock is = rw is refl
     by_kind kind.Data is = rw is refl
     by_kind kind.Compressed is = rw is refl

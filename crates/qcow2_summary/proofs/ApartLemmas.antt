@@ -1,4 +1,4 @@
-use Rattle.std.proofs.Common.{◌≡◌, ℕ, zero, suc, false, ◌+◌, ◌*◌, ◌^◌, ◌<◌, ◌≤◌, List, [], ◌∷◌, ◌++◌, flat_map, slice_index, Some, arith}
+use Rattle.std.proofs.Common.{◌≡◌, ℕ, zero, suc, Bool, true, false, not, ◌||◌, ◌==◌, ◌+◌, ◌*◌, ◌^◌, ◌<◌, ◌≤◌, List, [], ◌∷◌, ◌++◌, flat_map, slice_index, Some, arith}
 use Rattle.std.proofs.Math.Nat.{div-le_self}
 use Rattle.std.proofs.lemmas.Bool.Decides.{nat_tests}
 use Rattle.std.proofs.lemmas.List.Sums.{sum_by-append}
@@ -10,7 +10,8 @@ use Rattle.qcow2_metadata.specs.Header.{Geometry, HeaderRecord, geometry_of}
 use Rattle.qcow2_metadata.specs.Placed.{numbers_at}
 use Rattle.qcow2_metadata.specs.Table.{l2_layout}
 use Rattle.qcow2_check.proofs.FindingsLemmas.{excludes, kind-cons, uses_by_kind}
-use Rattle.qcow2_check.specs.Findings.{AreRight, is_shared, uses_of_kind}
+use Rattle.qcow2_check.specs.Findings.{AreRight, finding_at, is_shared, is_wrong, uses_of_kind}
+use Rattle.qcow2_check.specs.declared.findings.Finding.{Finding}
 use Rattle.qcow2_check.specs.NamedTables.{l1_cluster, named_cluster}
 use Rattle.qcow2_check.specs.Tally.{ClusterUse, used_clusters}
 use Rattle.qcow2_check.specs.Uses.{ImageTables, block_uses, entry_uses, header_uses, image_uses, l1_entry_uses, table_uses, uses_of}
@@ -81,6 +82,22 @@ l1-used header c from before = grind (arith, nat_tests, kind-cons, from, before)
 pub named-below : (cb v : ℕ) (cluster : HostCluster) → named_cluster cb v ≡ Some cluster → cluster.0 < max_file_length
 named-below cb v cluster names = grind (arith, nat_tests, names, div-le_self)
 
+-- what isn't wrong has no uses that exclude each other
+pub right-apart : (finding : Finding) → is_wrong finding ≡ false → finding.shared ≡ false
+right-apart finding right = by_both (finding.counter == finding.uses) finding.shared right
+  where
+    by_both : (same shared : Bool) → not same || shared ≡ false → shared ≡ false
+    by_both true shared right = right
+    by_both false shared right = absurd (grind (arith, right))
+
+-- so a cluster that is an L2 table is nothing fixed
+table-alone : (uses : List ClusterUse) (c : ℕ) → is_shared uses c ≡ false → 0 < uses_of_kind L2Table uses c → uses_of_kind Fixed uses c ≡ 0
+table-alone uses c apart used = grind (arith, nat_tests, used, excludes uses c apart, uses_by_kind uses c)
+
+-- and what is fixed is nothing twice
+fixed-alone : (uses : List ClusterUse) (c : ℕ) → is_shared uses c ≡ false → uses_of_kind Fixed uses c ≤ 1
+fixed-alone uses c apart = grind (arith, nat_tests, excludes uses c apart, uses_by_kind uses c)
+
 -- where nothing is found of an image, no cluster of its header and its L1 table is one that an L1 entry names
 pub named-apart : (tables : ImageTables) (image : Image) (k : ℕ) (cluster : HostCluster) → AreRight tables image 0 max_file_length
     → named_cluster tables.header.v2.cluster_bits (slice_index tables.l1 k) ≡ Some cluster
@@ -88,8 +105,11 @@ pub named-apart : (tables : ImageTables) (image : Image) (k : ℕ) (cluster : Ho
 named-apart tables image k cluster right names =
     let uses = image_uses tables image in
     let below = named-below _ _ cluster names in
-    let apart : is_shared uses cluster.0 ≡ false = grind (arith, nat_tests, right cluster.0 (omega arith) below) in
-    grind (arith, nat_tests, excludes uses cluster.0 apart, uses_by_kind uses cluster.0, named-used tables image k cluster names, header-used tables image cluster.0)
+    let apart : is_shared uses cluster.0 ≡ false = right-apart (finding_at tables image cluster.0) (right cluster.0 (omega arith) below) in
+    let blocks = flat_map (block_uses tables.header.v2.cluster_bits) tables.reftable in
+    let last = flat_map (l1_entry_uses (geometry_of tables.header) image) tables.l1 in
+    let none = table-alone uses cluster.0 apart (named-used tables image k cluster names) in
+    omega (arith, none, kind-append Fixed (header_uses tables.header) (blocks ++ last) cluster.0)
 
 -- nothing else uses a cluster of guest data where its uses don't exclude each other
 pub guest-alone : (uses : List ClusterUse) (c : ℕ) → is_shared uses c ≡ false → 0 < uses_of_kind Guest uses c
@@ -103,8 +123,8 @@ header-once tables image c right below =
     let uses = image_uses tables image in
     let blocks = flat_map (block_uses tables.header.v2.cluster_bits) tables.reftable in
     let last = flat_map (l1_entry_uses (geometry_of tables.header) image) tables.l1 in
-    let apart : is_shared uses c ≡ false = grind (arith, nat_tests, right c (omega arith) below) in
-    grind (arith, nat_tests, excludes uses c apart, uses_by_kind uses c, kind-append Fixed (header_uses tables.header) (blocks ++ last) c)
+    let apart : is_shared uses c ≡ false = right-apart (finding_at tables image c) (right c (omega arith) below) in
+    omega (arith, fixed-alone uses c apart, kind-append Fixed (header_uses tables.header) (blocks ++ last) c)
 
 -- the first cluster has two where the L1 table reaches it
 pub l1-first-used : (header : HeaderRecord) → (l1_cluster header).0 ≡ 0 → 0 < div_ceil (8 * header.v2.l1_size) (2 ^ header.v2.cluster_bits)

@@ -2,12 +2,13 @@ use Rattle.std.proofs.Common.{◌≡◌, ℕ, ◌++◌, ◌∷◌, [], List, fal
 use Rattle.std.specs.Prelude.{⊤}
 use Rattle.qcow2_base.specs.Storage.{Image, be}
 use Rattle.qcow2_base.specs.declared.fault.Fault.{Fault}
+use Rattle.qcow2_metadata.specs.Header.{uncounted_part}
 use Rattle.qcow2_metadata.specs.Header.Chain.{extensions_at}
 use Rattle.qcow2_metadata.specs.Header.Grammar.{accepted_header, header_of}
 use Rattle.qcow2_metadata.specs.Results.{and_then, result_map}
 use Rattle.qcow2_check.specs.Findings.{checked_tables, findings_from, sought_from}
 use Rattle.qcow2_check.specs.Flags.{image_flags}
-use Rattle.qcow2_check.specs.Uses.{ImageTables}
+use Rattle.qcow2_check.specs.Uses.{ImageTables, key_clusters}
 use Rattle.qcow2_check.specs.declared.findings.Finding.{Finding}
 use Rattle.qcow2_check.specs.declared.flags.FlagPlace.TheVariants.{L1Index, Offset}
 use Rattle.qcow2_check.specs.declared.flags.WrongFlag.{WrongFlag}
@@ -15,7 +16,7 @@ use Rattle.qcow2_summary.proofs.SampleImage.{Part, byte, counted, entry, laid}
 
 -- `unfolding computing` opens what is needed to compute what is found in an image that is written out
 unfoldable computing : ⊤
-unfolding accepted_header extensions_at be sought_from
+unfolding accepted_header extensions_at be sought_from key_clusters uncounted_part
 computing = tt
 
 -- what a check finds: the findings among clusters 0 to 11, and all wrong flags

@@ -10,13 +10,13 @@ use Rattle.qcow2_check.proofs.CountersLemmas.{free_unused, names_inside}
 use Rattle.qcow2_check.proofs.FindingsLemmas.{excludes, kind-cons, uses_by_kind}
 use Rattle.qcow2_check.proofs.RepeatsLemmas.{again_where}
 use Rattle.qcow2_check.specs.Counters.{block_of_cluster, counter_of, counters_each, is_counted_again, unused_counter}
-use Rattle.qcow2_check.specs.Findings.{AreRight, is_shared, reported_counter, uses_of_kind}
+use Rattle.qcow2_check.specs.Findings.{AreRight, finding_at, is_shared, reported_counter, uses_of_kind}
 use Rattle.qcow2_check.specs.NamedTables.{named_block}
 use Rattle.qcow2_check.specs.Repeats.{is_again}
 use Rattle.qcow2_check.specs.Tally.{used_clusters}
 use Rattle.qcow2_check.specs.Uses.{ImageTables, block_uses, header_uses, image_uses, l1_entry_uses, uses_of}
 use Rattle.qcow2_check.specs.declared.tally.TallyKind.TheVariants.{Fixed}
-use Rattle.qcow2_summary.proofs.ApartLemmas.{kind-append}
+use Rattle.qcow2_summary.proofs.ApartLemmas.{kind-append, right-apart}
 
 -- a refcount table entry uses the block that it names
 entry-uses : (cb v : ℕ) (block : HostCluster) → named_block cb v ≡ Some block → uses_of_kind Fixed (block_uses cb v) block.0 ≡ 1
@@ -49,7 +49,7 @@ AreUnshared tables image = (c : ℕ) → c < max_file_length → is_shared (imag
 
 -- so it is where nothing is found
 pub right-unshared : (tables : ImageTables) (image : Image) → AreRight tables image 0 max_file_length → AreUnshared tables image
-right-unshared tables image right = λ c below. grind (arith, nat_tests, right c (omega arith) below)
+right-unshared tables image right = λ c below. right-apart (finding_at tables image c) (right c (omega arith) below)
 
 -- no two entries of the refcount table name one block that lies below the greatest end
 abbrev pub AreNamedOnce : ImageTables → Type 0

@@ -242,10 +242,11 @@ pub const LARGE_COUNTERS: Numbers<'static> = counted! {
 };
 
 /// All images that can be checked, in lists.
-pub fn damages() -> [&'static [Damage]; 6] {
+pub fn damages() -> [&'static [Damage]; 7] {
     [
         clusters::wrong_counters(),
         clusters::uses(),
+        clusters::parts(),
         clusters::shared_clusters(),
         flags::flags(),
         flags::other_images(),

@@ -98,6 +98,18 @@ pub const EXTERNAL: (u64, u64) = (72, 4);
 /// An autoclear bit.
 pub const AUTOCLEAR: (u64, u64) = (88, 1);
 
+/// LUKS encryption.
+pub const LUKS: (u64, u64) = (32, 0x0000_0002_0000_0001);
+
+/// An extension with the place of the encryption header: its type, and the length of its data.
+pub const KEYS: (u64, u64) = (104, 0x0537_be77_0000_0010);
+
+/// Its offset there: cluster 6.
+pub const KEYS_OFFSET: (u64, u64) = (112, 0xc00);
+
+/// Its length: two clusters in part.
+pub const KEYS_LENGTH: (u64, u64) = (120, 0x201);
+
 /// The L1 entry without the copied flag.
 pub const TABLE: (u64, u64) = (TABLE_ENTRY, L2_TABLE);
 

@@ -4,7 +4,9 @@ use super::calls::runs_of;
 use crate::sample_image::sample_image;
 use qcow2_base::{GuestOffset, HostCluster};
 use qcow2_layout::{Part, Run};
-use qcow2_testing::sample_image::{BLOCK, L1_TABLE, L2_TABLE, LAST, NEXT_ENTRY, REFTABLE};
+use qcow2_testing::sample_image::{
+    BLOCK, KEYS, KEYS_LENGTH, KEYS_OFFSET, L1_TABLE, L2_TABLE, LAST, LUKS, NEXT_ENTRY, REFTABLE,
+};
 use qcow2_testing::{COPIED, Numbers, VERSION_3, each, image_with, rows, same};
 use std::alloc::Global;
 use std::test::Fail;
@@ -146,6 +148,15 @@ const TABLES_FIRST: &[Laid<'static>] = rows! { Laid:
         changes: &[(L1_TABLE, REFTABLE), (REFTABLE, 512)],
         runs: runs! { 0 + 1 Part::Header, 1 + 1 Part::L1Table, 2 + 1 Part::Free,
             3 + 1 Part::RefcountTable } },
+    { name: "an encryption header, and data in its second cluster",
+        changes: &[LUKS, KEYS, KEYS_OFFSET, KEYS_LENGTH, (NEXT_ENTRY, 0xe00), (NEXT_ENTRY + 8, 0x1000)],
+        runs: runs! { 0 + 1 Part::Header, 1 + 1 Part::L1Table, 2 + 1 Part::L2Table,
+            3 + 1 Part::RefcountTable, 4 + 1 Part::RefcountBlock, 5 + 1 FIRST,
+            6 + 2 Part::EncryptionHeader, 8 + 1 Part::Data(GuestOffset(2560)) } },
+    { name: "a refcount block and an L2 table in an encryption header",
+        changes: &[LUKS, KEYS, (112, 0x400), (120, 0x600)],
+        runs: runs! { 0 + 1 Part::Header, 1 + 1 Part::L1Table, 2 + 1 Part::EncryptionHeader,
+            3 + 1 Part::RefcountTable, 4 + 1 Part::EncryptionHeader, 5 + 1 FIRST } },
     { name: "no block", changes: &[(REFTABLE, 0)],
         runs: runs! { 0 + 1 Part::Header, 1 + 1 Part::L1Table, 2 + 1 Part::L2Table,
             3 + 1 Part::RefcountTable, 4 + 1 Part::Free, 5 + 1 FIRST } },

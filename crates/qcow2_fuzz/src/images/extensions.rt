@@ -15,8 +15,15 @@ const EXTENSIONS: &[(u32, &[u8])] = &[
     (0x0000_0007, b""),
 ];
 
-/// Types of extensions that a check refuses: bitmaps, and an encryption header.
-const UNCOUNTED: &[u32] = &[0x2385_2875, 0x0537_be77];
+/// Types of extensions with a place: bitmaps, and an encryption header.
+const PLACED: &[u32] = &[0x2385_2875, 0x0537_be77];
+
+/// Such places: none, an offset and a length, and the same within a cluster of most sizes.
+const PLACES: &[&[u8]] = &[
+    b"",
+    b"\0\0\0\0\0\x20\0\0\0\0\0\0\0\0\x08\x01",
+    b"\0\0\0\0\0\0\x06\0\0\0\0\0\0\0\x02\0",
+];
 
 /// Names of backing files.
 const NAMES: &[&[u8]] = &[b"base.img", b"", b"a", b"b\xc3\xa4se", b"json:{}"];
@@ -69,8 +76,12 @@ fn put_chain(draft: &mut Draft, random: &mut Random) -> u64 {
         let (extension, content) = random.pick(EXTENSIONS, (0, b""));
         place = put_extension(draft, place, extension, content);
     }
-    if random.is_one_in(30) {
-        place = put_extension(draft, place, random.pick(UNCOUNTED, 0), b"");
+    if random.is_one_in(12) {
+        let content = random.pick(PLACES, b"");
+        place = put_extension(draft, place, random.pick(PLACED, 0), content);
+        if random.is_one_in(2) {
+            put_u32(draft.bytes.as_mut_slice(), 32, 2);
+        }
     }
     place
 }

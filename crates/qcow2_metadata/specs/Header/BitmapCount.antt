@@ -3,7 +3,7 @@ use Rattle.std.specs.Prelude.{ℕ, ◌==◌, ◌&&◌, nat_le, if◌then◌else�
 use Rattle.std.specs.Option.{option_or}
 use Rattle.qcow2_base.specs.Bits.{field}
 use Rattle.qcow2_base.specs.Storage.{be, image_of}
-use Rattle.qcow2_metadata.specs.Header.{HeaderRecord}
+use Rattle.qcow2_metadata.specs.Header.{HeaderRecord, bitmaps_type}
 use Rattle.qcow2_metadata.specs.Header.Extensions.{Extension, Unknown}
 use Rattle.qcow2_metadata.specs.Header.Features.{autoclear_bit}
 use Rattle.qcow2_metadata.specs.declared.header.features.AutoclearFeatures.TheVariants.{Bitmaps}
@@ -11,7 +11,7 @@ use Rattle.qcow2_metadata.specs.declared.header.features.AutoclearFeatures.TheVa
 -- the number of bitmaps that an extension says, if it is of their type: the big-endian one in its first four bytes
 abbrev pub bitmap_count_in : Extension → Option ℕ
 bitmap_count_in (Unknown number content) =
-    if number == 0x23852875 && nat_le 4 (length content) then Some (be (image_of content) 0 4) else None
+    if number == bitmaps_type && nat_le 4 (length content) then Some (be (image_of content) 0 4) else None
 bitmap_count_in _ = None
 
 -- the number that the first extension says which says one

@@ -33,8 +33,8 @@ opened_text writable (Ok header) = elim (is_rewritten writable header) [
   | false ↦ []
 ]
 
--- a header says of an image what another says, but for autoclear features, names of features, and the places and the padding
--- of its own text
+-- a header says of an image what another says, but that it may have no autoclear features, and for names of features, and the
+-- places and the padding of its own text
 pub record SaysSame (old new : HeaderRecord) : Type 0 where
   pub v2 : new.v2 ≡ record old.v2 {
     backing_file_offset = new.v2.backing_file_offset;
@@ -44,6 +44,7 @@ pub record SaysSame (old new : HeaderRecord) : Type 0 where
     autoclear_features = new.base.autoclear_features;
     header_length = new.base.header_length;
   }
+  pub autoclear : (new.base.autoclear_features ≡ old.base.autoclear_features) ⊎ (new.base.autoclear_features ≡ 0)
   pub backing_filename : new.backing_filename ≡ old.backing_filename
   pub extensions : filter is_other new.extensions ≡ filter is_other old.extensions
 

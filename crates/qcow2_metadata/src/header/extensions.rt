@@ -101,7 +101,7 @@ impl HeaderExtension {
     }
 
     // Whether it is of the unknown type with this number.
-    fn is_unknown(&self, number: u32) -> bool
+    pub(super) fn is_unknown(&self, number: u32) -> bool
         ensures { result ≡ is_unknown number (extension_of self.now) }
     {
         match self {

@@ -35,6 +35,7 @@ abbrev pub part_text : Part → List ℕ
 part_text part.Header = codes "header"
 part_text part.L1Table = codes "l1"
 part_text part.L2Table = codes "l2"
+part_text part.EncryptionHeader = codes "encryption-header"
 part_text part.RefcountTable = codes "refcount-table"
 part_text part.RefcountBlock = codes "refcount-block"
 part_text (part.Data offset) = codes "data " ++ offset_text offset.0

@@ -1,5 +1,5 @@
 -- What does the command `tables` print?
-use Rattle.std.specs.Prelude.{◌≡◌, ℕ, ◌*◌, ◌^◌, List, [], ◌∷◌, ◌++◌, flat_map, Result, codes}
+use Rattle.std.specs.Prelude.{◌≡◌, ℕ, ◌==◌, ◌*◌, ◌^◌, List, [], ◌∷◌, ◌++◌, flat_map, if◌then◌else◌, Result, codes}
 use Rattle.std.specs.Fmt.{decimal}
 use Rattle.qcow2_base.specs.Storage.{Image}
 use Rattle.qcow2_base.specs.declared.fault.Fault.{Fault}
@@ -35,6 +35,7 @@ table_line line.Header = codes "header 0 1\n"
 table_line (line.L1Table first count) = codes "l1 " ++ pair_text first.0 count ++ codes "\n"
 table_line (line.L2Table index cluster start mapped counter) = codes "l2 " ++ pair_text index cluster.0 ++ codes " "
     ++ range_text start mapped ++ codes " " ++ decimal counter ++ codes "\n"
+table_line (line.EncryptionHeader first count) = codes "encryption-header " ++ pair_text first.0 count ++ codes "\n"
 table_line (line.RefcountTable first count) = codes "refcount-table " ++ pair_text first.0 count ++ codes "\n"
 table_line (line.RefcountBlock index cluster counted) =
     codes "refcount-block " ++ pair_text index cluster.0 ++ codes " " ++ decimal counted.0 ++ codes "\n"
@@ -50,7 +51,11 @@ l2_row header counter cluster index =
 abbrev pub block_row : HeaderRecord → HostCluster → ℕ → TableLine
 block_row header cluster index = line.RefcountBlock index cluster (record { 0 = index * counters_each header })
 
--- the row of a use as the header, the L1 table or an L2 table, by the counter of each cluster
+-- the row of the encryption header, if it has clusters
+abbrev pub key_rows : HostCluster → ℕ → List TableLine
+key_rows first count = if count == 0 then [] else line.EncryptionHeader first count ∷ []
+
+-- the row of a use as the header, the L1 table, the encryption header or an L2 table, by the counter of each cluster
 abbrev pub mapping_row : HeaderRecord → (ℕ → ℕ) → Use → List TableLine
 mapping_row header counter used = of_kind used.kind
   where
@@ -58,6 +63,7 @@ mapping_row header counter used = of_kind used.kind
     of_kind kind.Header = line.Header ∷ []
     of_kind kind.L1Table = line.L1Table used.clusters.first used.clusters.count.0 ∷ []
     of_kind kind.L2Table = l2_row header counter used.clusters.first used.owner ∷ []
+    of_kind kind.EncryptionHeader = key_rows used.clusters.first used.clusters.count.0
     of_kind kind.RefcountTable = []
     of_kind kind.RefcountBlock = []
     of_kind kind.Data = []
@@ -71,12 +77,13 @@ counting_row header used = of_kind used.kind
     of_kind kind.Header = []
     of_kind kind.L1Table = []
     of_kind kind.L2Table = []
+    of_kind kind.EncryptionHeader = []
     of_kind kind.RefcountTable = line.RefcountTable used.clusters.first used.clusters.count.0 ∷ []
     of_kind kind.RefcountBlock = block_row header used.clusters.first used.owner ∷ []
     of_kind kind.Data = []
     of_kind kind.Compressed = []
 
--- where everything lies in an image with these tables: first what maps the disk, and then what counts clusters
+-- where everything lies in an image with these tables: first what maps the disk and keeps its keys, and then what counts clusters
 abbrev pub rows_of : ImageTables → Image → List TableLine
 rows_of tables image =
     flat_map (mapping_row tables.header (counter_of tables.header tables.reftable image)) (tables_list tables)

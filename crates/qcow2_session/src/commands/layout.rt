@@ -117,6 +117,7 @@ fn prepend_part(line: &mut LineBuffer, part: Part)
         Part::Header => line.prepend("header"),
         Part::L1Table => line.prepend("l1"),
         Part::L2Table => line.prepend("l2"),
+        Part::EncryptionHeader => line.prepend("encryption-header"),
         Part::RefcountTable => line.prepend("refcount-table"),
         Part::RefcountBlock => line.prepend("refcount-block"),
         Part::Data(offset) => {

@@ -1,6 +1,6 @@
 //! The command `tables`: where the header, the tables and the refcount blocks lie.
 
-ghost use Rattle.std.specs.Prelude.{◌≡◌, ◌⊎◌, ◌+◌, ◌<◌, ◌≤◌, ◌++◌, Ok, flat_map, length, map};
+ghost use Rattle.std.specs.Prelude.{◌≡◌, ◌⊎◌, ◌+◌, ◌<◌, ◌≤◌, ◌++◌, Ok, OnOk, flat_map, length, map};
 ghost use Rattle.std.proofs.Common.{arith};
 ghost use Rattle.std.proofs.lemmas.Grind.{flat_map-append};
 ghost use Rattle.std.proofs.lemmas.List.{append-nil, append_assoc};
@@ -11,13 +11,13 @@ ghost use Rattle.qcow2_check.specs.NamedTables.{l1_cluster, l1_layout};
 ghost use Rattle.qcow2_metadata.specs.Results.{Reads};
 ghost use Rattle.qcow2_metadata.specs.Table.{IsTableFault};
 ghost use Rattle.qcow2_session.specs.Commands.Printing.{Prints, PrintsLast, PrintsText, run_over};
-ghost use Rattle.qcow2_session.specs.Commands.Tables.{AddsRows, block_row, counted_row, image_rows, l2_row, pair_text, range_text, table_line, tables_lines};
+ghost use Rattle.qcow2_session.specs.Commands.Tables.{AddsRows, block_row, counted_row, image_rows, key_rows, l2_row, pair_text, range_text, table_line, tables_lines};
 
 use crate::lines::{LineBuffer, ToLine, print_lines};
 use qcow2_base::{Fault, GuestCluster, GuestOffset, HostCluster, Storage};
 use qcow2_check::{Counters, ImageTables, Use, UseKind, UseSink, load_l1_table, walk_tables};
 use qcow2_metadata::{Header, Table};
-use std::alloc::Global;
+use std::alloc::{AllocError, Global};
 use std::io::Write;
 use std::marker::Model;
 
@@ -39,6 +39,11 @@ pub(super) enum TableLine {
         mapped: u64,
         counter: u64,
     },
+    /// The clusters of the encryption header.
+    EncryptionHeader {
+        first: HostCluster,
+        count: u64,
+    },
     /// The clusters of the refcount table.
     RefcountTable {
         first: HostCluster,
@@ -52,8 +57,8 @@ pub(super) enum TableLine {
     },
 }
 
-// A sink of the walk over an image with this header: a row for each table, with those that map the disk
-// apart from those that count clusters.
+// A sink of the walk over an image with this header: a row for each table, with those that map the disk and
+// the encryption header apart from those that count clusters.
 #[derive(Drop)]
 struct Rows<'a> {
     header: &'a Header,
@@ -73,11 +78,11 @@ impl<'a> Model for Rows<'a> {
     } };
 }
 
-/// Prints where everything lies in an image with this header, in lines: the header, the L1 table, the L2
-/// table of each L1 entry that names one, the refcount table, and the block of each of its entries that
-/// names one. Places are numbers of host clusters. An L2 table's line has its L1 index, its cluster, the
-/// guest offset and the length in bytes of what it maps, and the refcount of its cluster. A block's line
-/// has its index, its cluster, and the first cluster that it counts.
+/// Prints where everything lies in an image with this header, in lines: the header, the L1 table, the
+/// encryption header if there is one, the L2 table of each L1 entry that names one, the refcount table, and
+/// the block of each of its entries that names one. Places are numbers of host clusters. An L2 table's line
+/// has its L1 index, its cluster, the guest offset and the length in bytes of what it maps, and the refcount
+/// of its cluster. A block's line has its index, its cluster, and the first cluster that it counts.
 ///
 /// Returns the fault of the L1 table, that of the refcount table, and then 21 if a block that it names
 /// would end past 2^56. Each fault comes before any line; a failed write to `out` is the storage fault.
@@ -133,6 +138,7 @@ impl UseSink for Rows<'_> {
         match used.kind {
             UseKind::Header => self.mapping.push(TableLine::Header)?,
             UseKind::L1Table => self.mapping.push(TableLine::L1Table { first, count })?,
+            UseKind::EncryptionHeader => self.take_keys(first, count)?,
             UseKind::L2Table => self.mapping.push(l2_row(self.header, first, used.owner))?,
             UseKind::RefcountTable => {
                 self.counting
@@ -150,6 +156,21 @@ impl UseSink for Rows<'_> {
 
     ghost takes_both = { λ first second a b c one other.
         Prim.grind (arith, one, other, flat_map-append, append_assoc) };
+}
+
+impl Rows<'_> {
+    // Adds the row of the encryption header, if it has clusters.
+    fn take_keys(&mut self, first: HostCluster, count: u64) -> Result<(), AllocError>
+        ensures { OnOk result (self.new ≡ record self.old {
+          mapping = self.old.mapping ++ key_rows first count;
+        }) }
+    {
+        if count > 0 {
+            self.mapping
+                .push(TableLine::EncryptionHeader { first, count })?;
+        }
+        Ok(())
+    }
 }
 
 // The row of the L2 table at a cluster, before its refcount is read.
@@ -243,10 +264,7 @@ impl ToLine for TableLine {
         line.prepend("\n");
         match self {
             TableLine::Header => line.prepend("header 0 1"),
-            TableLine::L1Table { first, count } => {
-                prepend_pair(line, first.0, *count);
-                line.prepend("l1 ");
-            }
+            TableLine::L1Table { first, count } => prepend_clusters(line, "l1 ", *first, *count),
             TableLine::L2Table {
                 l1_index,
                 cluster,
@@ -261,9 +279,11 @@ impl ToLine for TableLine {
                 prepend_pair(line, *l1_index, cluster.0);
                 line.prepend("l2 ");
             }
+            TableLine::EncryptionHeader { first, count } => {
+                prepend_clusters(line, "encryption-header ", *first, *count);
+            }
             TableLine::RefcountTable { first, count } => {
-                prepend_pair(line, first.0, *count);
-                line.prepend("refcount-table ");
+                prepend_clusters(line, "refcount-table ", *first, *count);
             }
             TableLine::RefcountBlock {
                 index,
@@ -277,6 +297,16 @@ impl ToLine for TableLine {
             }
         }
     }
+}
+
+// Puts a name and clusters in front of a line.
+fn prepend_clusters(line: &mut LineBuffer, name: &str, first: HostCluster, count: u64)
+    requires line { length line.old ≤ 100 }
+    requires name { length name.now ≤ 20 }
+    ensures text { line.new ≡ name.now ++ pair_text first.0 count ++ line.old }
+{
+    prepend_pair(line, first.0, count);
+    line.prepend(name);
 }
 
 /// Puts two numbers in front of a line.

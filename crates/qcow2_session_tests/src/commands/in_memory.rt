@@ -8,8 +8,8 @@ use qcow2_session::{Command, Verdict, run_words};
 use qcow2_session_calls::{parse_command, run, run_on_file};
 use qcow2_testing::damages::{Loaded, loaded_images};
 use qcow2_testing::sample_image::{
-    BLOCK, EXTENTS, INFO, JSON, L2_TABLE, LARGER, NEXT_TABLE, REFTABLE, TABLE_LINES, TWO_TABLES,
-    check_sample, sample_image,
+    BLOCK, EXTENTS, INFO, JSON, KEYS, KEYS_LENGTH, KEYS_OFFSET, L2_TABLE, LARGER, LUKS, NEXT_TABLE,
+    REFTABLE, TABLE_LINES, TO_7, TWO_TABLES, check_sample, sample_image,
 };
 use qcow2_testing::{
     COPIED, KnownFile, KnownFiles, Numbers, counted, each, picture, recorded, rows, same,
@@ -80,6 +80,9 @@ const BY_TABLE: &[Row] = rows! {
         ..ROW },
 };
 
+// LUKS encryption, with keys in clusters 6 and 7.
+const WITH_KEYS: Numbers<'static> = counted! { LUKS, KEYS, KEYS_OFFSET, KEYS_LENGTH, TO_7 };
+
 // Commands that print the places of tables and clusters.
 const PLACES: &[Row] = rows! {
     // a table of 64 entries maps 32 KiB, and a block of 256 refcounts counts from cluster 0 on
@@ -89,6 +92,9 @@ const PLACES: &[Row] = rows! {
     Row { line: "tables IMAGE", before: NAMED_TWICE,
         printed: "header 0 1\nl1 1 1\nl2 0 2 0x0 0x8000 1\nl2 1 2 0x8000 0x8000 1\nrefcount-table 3 1\n\
             refcount-block 0 4 0\nrefcount-block 1 4 256\n", after: NAMED_TWICE, ..ROW },
+    Row { line: "tables IMAGE", before: WITH_KEYS,
+        printed: "header 0 1\nl1 1 1\nencryption-header 6 2\nl2 0 2 0x0 0x8000 1\nrefcount-table 3 1\n\
+            refcount-block 0 4 0\n", after: WITH_KEYS, ..ROW },
     // the header names no refcount table
     Row { line: "tables IMAGE", printed: "header 0 1\nl1 1 1\nl2 0 2 0x0 0x8000 0\nrefcount-table 0 0\n",
         ..ROW },
@@ -97,6 +103,9 @@ const PLACES: &[Row] = rows! {
     Row { line: "tables IMAGE", before: counted!((0x608, 1 << 56)), answer: Some(Err(Fault::TablePlace)),
         after: counted!((0x608, 1 << 56)), ..ROW },
     Row { line: "tables IMAGE 0", answer: None, ..ROW },
+    Row { line: "layout IMAGE", before: WITH_KEYS,
+        printed: "0 1 header\n1 1 l1\n2 1 l2\n3 1 refcount-table\n4 1 refcount-block\n5 1 data 0x600\n\
+            6 2 encryption-header\n", after: WITH_KEYS, ..ROW },
     Row { line: "layout IMAGE", before: counted!((88, 1)), printed: LAYOUT, after: counted!((88, 1)), ..ROW },
     // without a block no cluster is leaked
     Row { line: "layout IMAGE", printed: "0 1 header\n1 1 l1\n2 1 l2\n3 2 free\n5 1 data 0x600\n", ..ROW },

@@ -6,9 +6,9 @@ use super::{
     place, wrong,
 };
 use crate::sample_image::{
-    BLOCK, COUNTERS, COUNTERS_4, COUNTERS_8, DATA, DATA_ENTRY, L1_TABLE, L2_TABLE, LARGER, LAST,
-    NEXT_ENTRY, NEXT_TABLE, NO_DATA, REFTABLE, TABLE, TABLE_ENTRY, TABLE_TWICE, THIRD_ENTRY, TO_6,
-    TO_7, TWICE, TWO_TABLES,
+    BLOCK, COUNTERS, COUNTERS_4, COUNTERS_8, DATA, DATA_ENTRY, KEYS, KEYS_LENGTH, KEYS_OFFSET,
+    L1_TABLE, L2_TABLE, LARGER, LAST, LUKS, NEXT_ENTRY, NEXT_TABLE, NO_DATA, REFTABLE, TABLE,
+    TABLE_ENTRY, TABLE_TWICE, THIRD_ENTRY, TO_6, TO_7, TWICE, TWO_TABLES,
 };
 use crate::{COMPRESSED, COPIED, Numbers, counted, rows};
 
@@ -209,6 +209,40 @@ const USES: &[Damage] = rows! {
         sizes: Sizes { end: 3584, ..SIZES }, ..DAMAGE },
 };
 
+// Clusters of an encryption header, and of bitmaps that are stale.
+const PARTS: &[Damage] = rows! {
+    Damage { name: "an encryption header", changes: counted! { LUKS, KEYS, KEYS_OFFSET, KEYS_LENGTH, TO_7 },
+        sizes: Sizes { end: 4096, ..SIZES }, ..DAMAGE },
+    Damage { name: "an encryption header of no byte",
+        changes: counted! { LUKS, KEYS, KEYS_OFFSET, (120, 0) }, ..DAMAGE },
+    Damage { name: "an encryption header after another extension",
+        changes: counted! {
+            LUKS, (104, 7 << 32), (112, 0x0537_be77_0000_0010), (120, 0xc00), (128, 0x400), TO_7
+        },
+        sizes: Sizes { end: 4096, ..SIZES }, ..DAMAGE },
+    Damage { name: "a missing encryption header",
+        changes: counted! { LUKS, KEYS, KEYS_OFFSET, KEYS_LENGTH },
+        clusters: found! { 6 counter 0 uses 1 shared false, 7 counter 0 uses 1 shared false },
+        lines: "missing 6 2 0 1\nleaked 0 missing 2 shared 0 false 0 late 0\n",
+        sizes: Sizes { end: 4096, ..SIZES }, ..DAMAGE },
+    Damage { name: "data in an encryption header",
+        changes: counted! { LUKS, KEYS, KEYS_OFFSET, KEYS_LENGTH, (NEXT_ENTRY, 0xc00),
+            (COUNTERS_4, 0x0001_0001_0002_0001) },
+        clusters: found! { 6 counter 2 uses 2 shared true },
+        lines: "shared 6 1 2 2\nleaked 0 missing 0 shared 1 false 0 late 0\n",
+        sizes: Sizes { end: 4096, allocated: 2, ..SIZES }, ..DAMAGE },
+    Damage { name: "an encryption header past the file",
+        changes: counted! { LUKS, KEYS, (112, 0x1400), KEYS_LENGTH, (COUNTERS_8, 0x0001_0001) },
+        past: found! { 10 counter 1 uses 1 shared false, 11 counter 1 uses 1 shared false },
+        lines: "past 10 2 1 1\nleaked 0 missing 0 shared 0 false 0 late 0 past 2\n",
+        sizes: Sizes { end: 6144, ..SIZES }, ..DAMAGE },
+    Damage { name: "the directory of stale bitmaps",
+        changes: counted! { (104, 0x2385_2875_0000_0018), (112, 1 << 32), (120, 24), (128, 0xc00), TO_6 },
+        clusters: found! { 6 counter 1 uses 0 shared false },
+        lines: "leaked 6 1 1 0\nleaked 1 missing 0 shared 0 false 0 late 0\n",
+        sizes: Sizes { end: 3584, ..SIZES }, ..DAMAGE },
+};
+
 // Data past all refcounts, in clusters that aren't all in one window of a check.
 pub(super) const FAR_APART: Numbers<'static> = counted! {
     (NEXT_ENTRY, 256 << 9), (NEXT_ENTRY + 8, 4095 << 9), (NEXT_ENTRY + 16, 4096 << 9),
@@ -310,6 +344,11 @@ pub(super) fn wrong_counters() -> &'static [Damage] {
 /// Clusters with references from all kinds of entries.
 pub(super) fn uses() -> &'static [Damage] {
     USES
+}
+
+/// Clusters of an encryption header, and of bitmaps that are stale.
+pub(super) fn parts() -> &'static [Damage] {
+    PARTS
 }
 
 /// Clusters whose references exclude each other, whatever their refcounts.

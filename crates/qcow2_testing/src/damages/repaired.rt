@@ -3,9 +3,9 @@
 use super::clusters::FAR_APART;
 use super::{LARGE_COUNTERS, LATE_TABLES, Loaded, Repair, Unrepairable};
 use crate::sample_image::{
-    AUTOCLEAR, COUNTERS, COUNTERS_4, COUNTERS_8, DATA, DATA_ENTRY, EXTERNAL, L1_TABLE, L2_TABLE,
-    LARGER, NEXT_ENTRY, NEXT_TABLE, NO_DATA, REFTABLE, TABLE, TABLE_ENTRY, TABLE_TWICE,
-    THIRD_ENTRY, TO_6, TO_7, TWICE, TWO_TABLES,
+    AUTOCLEAR, COUNTERS, COUNTERS_4, COUNTERS_8, DATA, DATA_ENTRY, EXTERNAL, KEYS, KEYS_LENGTH,
+    KEYS_OFFSET, L1_TABLE, L2_TABLE, LARGER, LUKS, NEXT_ENTRY, NEXT_TABLE, NO_DATA, REFTABLE,
+    TABLE, TABLE_ENTRY, TABLE_TWICE, THIRD_ENTRY, TO_6, TO_7, TWICE, TWO_TABLES,
 };
 use crate::{COPIED, Numbers, counted, rows};
 use qcow2_base::{Fault, UncountedPart};
@@ -37,6 +37,12 @@ const COUNTS: &[Repair] = rows! {
         ..CONSISTENT },
     Repair { name: "missing clusters of compressed data", changes: counted! { (NEXT_ENTRY, 3 << 61 | 0xc01) },
         left: counted! { (NEXT_ENTRY, 3 << 61 | 0xc01), TO_7 }, ..CONSISTENT },
+    Repair { name: "a missing encryption header", changes: counted! { LUKS, KEYS, KEYS_OFFSET, KEYS_LENGTH },
+        left: counted! { LUKS, KEYS, KEYS_OFFSET, KEYS_LENGTH, TO_7 }, ..CONSISTENT },
+    Repair { name: "the directory of stale bitmaps",
+        changes: counted! { (104, 0x2385_2875_0000_0018), (112, 1 << 32), (120, 24), (128, 0xc00), TO_6 },
+        left: counted! { (104, 0x2385_2875_0000_0018), (112, 1 << 32), (120, 24), (128, 0xc00) },
+        ..CONSISTENT },
     Repair { name: "all counters missing", changes: counted! { (COUNTERS, 0), (COUNTERS_4, 0) },
         ..CONSISTENT },
     // an empty table may lie anywhere

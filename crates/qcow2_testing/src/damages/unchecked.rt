@@ -2,8 +2,8 @@
 
 use super::Refused;
 use crate::sample_image::{
-    COUNTERS_8, DATA_ENTRY, L2_TABLE, LARGER, LAST, LAST_ENTRY, NEXT_TABLE, REFTABLE, TABLE_ENTRY,
-    TWO_TABLES,
+    AUTOCLEAR, COUNTERS_8, DATA_ENTRY, KEYS, KEYS_LENGTH, KEYS_OFFSET, L2_TABLE, LARGER, LAST,
+    LAST_ENTRY, LUKS, NEXT_TABLE, REFTABLE, TABLE_ENTRY, TWO_TABLES,
 };
 use crate::{COMPRESSED, COPIED, VERSION_2, counted, rows};
 use qcow2_base::{Fault, UncountedPart};
@@ -12,7 +12,7 @@ const SNAPSHOTS: Fault = Fault::Uncounted(UncountedPart::Snapshots);
 
 const BITMAPS: Fault = Fault::Uncounted(UncountedPart::Bitmaps);
 
-const KEYS: Fault = Fault::Uncounted(UncountedPart::Encryption);
+const LOST_KEYS: Fault = Fault::Uncounted(UncountedPart::Encryption);
 
 // Refused headers.
 const HEADERS: &[Refused] = rows! {
@@ -104,25 +104,54 @@ const UNCOUNTED: &[Refused] = rows! {
     Refused { name: "snapshots before a bad L1 entry",
         changes: counted! { (60, 3 << 32), (TABLE_ENTRY, 1) }, fault: SNAPSHOTS,
         place: "in IMAGE: byte 60: nb_snapshots is 3\n" },
-    Refused { name: "bitmaps", changes: counted! { (104, 0x2385_2875_0000_0000) }, fault: BITMAPS,
+    Refused { name: "bitmaps", changes: counted! { AUTOCLEAR, (104, 0x2385_2875_0000_0000) }, fault: BITMAPS,
         place: "in IMAGE: byte 104: extension 0x23852875 of 0 bytes\n" },
-    Refused { name: "an encryption header", changes: counted! { (104, 0x0537_be77_0000_0000) }, fault: KEYS,
+    Refused { name: "an encryption header",
+        changes: counted! { (104, 0x0537_be77_0000_0000) }, fault: LOST_KEYS,
         place: "in IMAGE: byte 104: extension 0x537be77 of 0 bytes\n" },
     Refused { name: "an encryption header after an unknown extension",
-        changes: counted! { (104, 7 << 32), (112, 0x0537_be77_0000_0000) }, fault: KEYS,
+        changes: counted! { (104, 7 << 32), (112, 0x0537_be77_0000_0000) }, fault: LOST_KEYS,
         place: "in IMAGE: byte 112: extension 0x537be77 of 0 bytes\n" },
     Refused { name: "LUKS with its header",
-        changes: counted! { (32, 0x0000_0002_0000_0001), (104, 0x0537_be77_0000_0000) }, fault: KEYS,
+        changes: counted! { (32, 0x0000_0002_0000_0001), (104, 0x0537_be77_0000_0000) }, fault: LOST_KEYS,
         place: "in IMAGE: byte 104: extension 0x537be77 of 0 bytes\n" },
+    // places that an encryption header can't have
+    Refused { name: "LUKS with its header within a cluster",
+        changes: counted! { LUKS, KEYS, (112, 0xc01), KEYS_LENGTH }, fault: LOST_KEYS,
+        place: "in IMAGE: byte 104: extension 0x537be77 of 16 bytes\n" },
+    Refused { name: "LUKS with a header of 32 MiB and a byte",
+        changes: counted! { LUKS, KEYS, KEYS_OFFSET, (120, 0x0200_0001) }, fault: LOST_KEYS,
+        place: "in IMAGE: byte 104: extension 0x537be77 of 16 bytes\n" },
+    Refused { name: "LUKS with a header that ends past the end",
+        changes: counted! { LUKS, KEYS, (112, LAST), KEYS_LENGTH }, fault: LOST_KEYS,
+        place: "in IMAGE: byte 104: extension 0x537be77 of 16 bytes\n" },
+    Refused { name: "LUKS with a header at the greatest offset",
+        changes: counted! { LUKS, KEYS, (112, 0xffff_ffff_ffff_fe00), KEYS_LENGTH }, fault: LOST_KEYS,
+        place: "in IMAGE: byte 104: extension 0x537be77 of 16 bytes\n" },
+    Refused { name: "LUKS with an extension of 15 bytes",
+        changes: counted! { LUKS, (104, 0x0537_be77_0000_000f), KEYS_OFFSET, KEYS_LENGTH }, fault: LOST_KEYS,
+        place: "in IMAGE: byte 104: extension 0x537be77 of 15 bytes\n" },
+    Refused { name: "LUKS with an extension of 17 bytes",
+        changes: counted! { LUKS, (104, 0x0537_be77_0000_0011), KEYS_OFFSET, KEYS_LENGTH }, fault: LOST_KEYS,
+        place: "in IMAGE: byte 104: extension 0x537be77 of 17 bytes\n" },
+    Refused { name: "LUKS with two headers",
+        changes: counted! {
+            LUKS, KEYS, KEYS_OFFSET, KEYS_LENGTH, (128, 0x0537_be77_0000_0010), (136, 0xc00), (144, 0x201)
+        }, fault: LOST_KEYS,
+        place: "in IMAGE: byte 104: extension 0x537be77 of 16 bytes\n\
+            in IMAGE: byte 128: extension 0x537be77 of 16 bytes\n" },
+    Refused { name: "an encryption header without LUKS",
+        changes: counted! { (32, 0x0000_0001_0000_0001), KEYS, KEYS_OFFSET, KEYS_LENGTH }, fault: LOST_KEYS,
+        place: "in IMAGE: byte 104: extension 0x537be77 of 16 bytes\n" },
     // kinds of encryption that may keep keys in clusters, without an extension with their place
-    Refused { name: "LUKS", changes: counted! { (32, 0x0000_0002_0000_0001) }, fault: KEYS,
+    Refused { name: "LUKS", changes: counted! { (32, 0x0000_0002_0000_0001) }, fault: LOST_KEYS,
         place: "in IMAGE: byte 32: crypt_method is 2\n" },
     Refused { name: "LUKS in version 2, whose extensions aren't read",
         changes: counted! { (0, VERSION_2), (32, 0x0000_0002_0000_0001), (72, 0x0537_be77_0000_0010) },
-        fault: KEYS,
+        fault: LOST_KEYS,
         place: "in IMAGE: byte 32: crypt_method is 2\n" },
     Refused { name: "an unknown kind of encryption", changes: counted! { (32, 0xffff_ffff_0000_0001) },
-        fault: KEYS,
+        fault: LOST_KEYS,
         place: "in IMAGE: byte 32: crypt_method is 4294967295\n" },
 };
 
