@@ -33,6 +33,16 @@ def seconds(words):
     return time.perf_counter() - start
 
 
+def processor_seconds(words):
+    """The processor time of a program, user and system, in seconds."""
+    with subprocess.Popen(words, stdout=subprocess.DEVNULL) as program:
+        _, status, usage = os.wait4(program.pid, 0)
+        program.returncode = os.waitstatus_to_exitcode(status)
+    if program.returncode != 0:
+        raise subprocess.CalledProcessError(program.returncode, words)
+    return usage.ru_utime + usage.ru_stime
+
+
 def peak_memory(words):
     """The peak memory of a program in KiB.
 
@@ -84,17 +94,17 @@ def nothing():
     """Prepares nothing for a run."""
 
 
-def measure(works, rounds, prepare=nothing):
+def measure(works, rounds, prepare=nothing, clock=seconds):
     """Prints the least time of each work and its memory, and returns them. Each round runs all works once.
 
-    `prepare` runs before each run, outside the measured time.
+    `prepare` runs before each run, outside the measured time. `clock` runs a program and returns its time.
     """
 
     def prepared(run, words):
         prepare()
         return run(words)
 
-    times = [[prepared(seconds, words) for words in works.values()] for _ in range(rounds)]
+    times = [[prepared(clock, words) for words in works.values()] for _ in range(rounds)]
     measured = [(min(column), prepared(peak_memory, words)) for column, words in zip(zip(*times), works.values())]
     for name, (least, memory) in zip(works, measured):
         print(f"{name:16} {least * 1000:9.2f} ms {memory:7} KiB", flush=True)
