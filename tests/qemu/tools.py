@@ -23,8 +23,8 @@ CLEAN = {"leaks": 0, "corruptions": 0, "check-errors": 0}
 # The key of encrypted images, for QEMU's tools.
 KEY = ("--object", "secret,id=key,data=secret")
 
-# The first bytes of an encrypted image: the last four are its method.
-ENCRYPTED_START = bytes(35) + b"\x02"
+# The place of the encryption method in an image's header, and LUKS there.
+METHOD_OFFSET, LUKS_METHOD = 32, b"\0\0\0\2"
 
 # The most characters shown of a failed command, and of the end of its output.
 MOST_SHOWN = 400
@@ -116,7 +116,8 @@ def create_image(path, size, options="", image_format="qcow2"):
 def is_encrypted(path):
     """Whether LUKS encrypts an image."""
     with open(path, "rb") as file:
-        return file.read(len(ENCRYPTED_START))[-4:] == ENCRYPTED_START[-4:]
+        file.seek(METHOD_OFFSET)
+        return file.read(len(LUKS_METHOD)) == LUKS_METHOD
 
 
 def named_with_key(path):
