@@ -25,7 +25,11 @@ most_l2_entries = 262144
 abbrev pub most_reftable_entries : ℕ
 most_reftable_entries = 4194304
 
--- how many a table in memory may have: no memory holds more
+-- how many snapshots an image may have
+abbrev pub most_snapshots : ℕ
+most_snapshots = 65536
+
+-- how many entries a table in memory may have: no memory holds more
 abbrev pub most_entries_in_memory : ℕ
 most_entries_in_memory = 2 ^ 48
 

@@ -4,6 +4,7 @@ use Rattle.qcow2_base.specs.Storage.{Image, be}
 use Rattle.qcow2_base.specs.declared.on_disk_struct.v2_header.V2Header.{V2Header}
 use Rattle.qcow2_base.specs.declared.on_disk_struct.v3_header_base.V3HeaderBase.{V3HeaderBase}
 use Rattle.qcow2_base.specs.declared.on_disk_struct.header_extension_header.HeaderExtensionHeader.{HeaderExtensionHeader}
+use Rattle.qcow2_base.specs.declared.on_disk_struct.snapshot_header.SnapshotHeader.{SnapshotHeader}
 
 -- the order of a number's bytes: the most significant one first, or the least significant one
 pub data Order : Type 0 where
@@ -103,4 +104,18 @@ abbrev pub header_extension_header : HeaderExtensionHeader → List LayoutField
 header_extension_header h =
     big 0 4 h.extension_type
     ∷ big 4 4 h.length
+    ∷ []
+
+-- the part of fixed length of a snapshot's entry
+abbrev pub snapshot_header : SnapshotHeader → List LayoutField
+snapshot_header h =
+    big 0 8 h.l1_table_offset
+    ∷ big 8 4 h.l1_size
+    ∷ big 12 2 h.id_str_size
+    ∷ big 14 2 h.name_size
+    ∷ big 16 4 h.date_sec
+    ∷ big 20 4 h.date_nsec
+    ∷ big 24 8 h.vm_clock_nsec
+    ∷ big 32 4 h.vm_state_size
+    ∷ big 36 4 h.extra_data_size
     ∷ []

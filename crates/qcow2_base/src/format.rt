@@ -22,3 +22,6 @@ pub const MAX_L1_ENTRIES: usize = 4194304;
 
 /// The greatest number of entries of a refcount table: 32 MiB of them.
 pub const MAX_REFTABLE_ENTRIES: usize = 4194304;
+
+/// The greatest number of snapshots of an image.
+pub const MAX_SNAPSHOTS: u32 = 65536;

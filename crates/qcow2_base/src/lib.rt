@@ -12,11 +12,11 @@ pub use bits::field;
 pub use fault::{Fault, FaultKind, Field, UncountedPart};
 pub use format::{
     EXTERNAL_DATA_FILE_BIT, MAGIC, MAX_BACKING_FILENAME, MAX_FILE_LENGTH, MAX_L1_ENTRIES,
-    MAX_OFFSET, MAX_REFTABLE_ENTRIES,
+    MAX_OFFSET, MAX_REFTABLE_ENTRIES, MAX_SNAPSHOTS,
 };
 pub use on_disk_struct::{
-    HeaderExtensionHeader, OnDiskSize, OnDiskStruct, V2Header, V3HeaderBase, read_be, read_le,
-    write_be, write_le,
+    HeaderExtensionHeader, OnDiskSize, OnDiskStruct, SnapshotHeader, V2Header, V3HeaderBase,
+    read_be, read_le, write_be, write_le,
 };
 pub use storage::{
     Device, FileStorage, ImageFile, ImageFiles, MemStorage, SliceStorage, Storage, StorageFault,

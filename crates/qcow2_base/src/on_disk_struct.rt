@@ -6,11 +6,13 @@ ghost use Rattle.qcow2_base.specs.OnDiskStruct.{Order, Big, Little, LayoutField,
 
 mod header_extension_header;
 mod integers;
+mod snapshot_header;
 mod v2_header;
 mod v3_header_base;
 
 use crate::Fault;
 pub use header_extension_header::HeaderExtensionHeader;
+pub use snapshot_header::SnapshotHeader;
 pub use v2_header::V2Header;
 pub use v3_header_base::V3HeaderBase;
 

@@ -20,9 +20,9 @@ use qcow2_base::Fault;
 use qcow2_metadata::{ClustersToFreeEntry, Refused};
 pub use tables::{
     LoadedTable, copy_l2_table, discard_cluster, enter_l2_table, enter_refblock, grow_l1_table,
-    grow_reftable, least_spare, load_table, map_cluster, new_l2_table, reload_l2_table,
-    set_cluster, set_l1_copied, set_l1_table, set_l2_copied, set_reftable, write_entry,
-    write_l2_table_if_modified, write_table, zero_cluster,
+    grow_reftable, least_spare, load_snapshots, load_table, map_cluster, new_l2_table,
+    reload_l2_table, set_cluster, set_l1_copied, set_l1_table, set_l2_copied, set_reftable,
+    write_entry, write_l2_table_if_modified, write_table, zero_cluster,
 };
 
 /// The fault of a call that isn't made. No call here returns it otherwise.

@@ -9,7 +9,7 @@ use crate::{NOT_MADE, Refusal, given_up};
 use qcow2_base::{ClusterCount, Fault, HostCluster, Storage};
 use qcow2_metadata::{
     ClustersToFreeEntry, Header, L1Table, L2Table, MAX_OFFSET, PendingClusters, RefBlock, RefTable,
-    Table, Turns,
+    SnapshotTable, Table, Turns,
 };
 use qcow2_testing::fits;
 use std::alloc::Global;
@@ -51,6 +51,15 @@ pub fn load_table<T: LoadedTable, S: Storage>(
         return Err(NOT_MADE);
     }
     T::load(alloc, image, header, cluster, entries)
+}
+
+/// `SnapshotTable::load`.
+pub fn load_snapshots<S: Storage>(
+    alloc: Global,
+    image: &mut S,
+    header: &Header,
+) -> Result<SnapshotTable, Fault> {
+    SnapshotTable::load(alloc, image, header)
 }
 
 /// `L2Table::reload`.

@@ -29,6 +29,7 @@ pub mod PointersLemmas
 pub mod RangeLemmas
 pub mod RefblockLemmas
 pub mod RunsLemmas
+pub mod SnapshotTableLemmas
 pub mod TableLemmas
 pub mod TablePiecesLemmas
 pub mod TextLemmas

@@ -23,7 +23,7 @@ use Rattle.qcow2_metadata.specs.declared.header.features.AcceptedFeatures.{Accep
 pub ruleset bytes_read = (held-bytes_at, take_at)
 
 -- a structure that was read is in the image
-read-layout : (image : Image) (offset : ℕ) (bytes : List ℕ) (fields : List LayoutField) → Holds image offset bytes
+pub read-layout : (image : Image) (offset : ℕ) (bytes : List ℕ) (fields : List LayoutField) → Holds image offset bytes
     → layout_end fields ≤ length bytes → HoldsLayout (image_of bytes) fields → HoldsLayout image (fields_moved_by offset fields)
 read-layout image offset bytes fields held within layout =
     HoldsLayout-moved (image_of bytes) image offset (length bytes) fields held.each within layout

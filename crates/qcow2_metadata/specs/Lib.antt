@@ -6,4 +6,5 @@ pub mod Range
 pub mod ReadAhead
 pub mod Refblock
 pub mod Results
+pub mod SnapshotTable
 pub mod Table

@@ -272,6 +272,22 @@ impl Header {
         self.v2.refcount_table_clusters as usize * self.l2_entries()
     }
 
+    /// Returns the number of internal snapshots.
+    #[inline]
+    pub fn snapshot_count(&self) -> u32
+        ensures { result ≡ self.now.v2.nb_snapshots }
+    {
+        self.v2.nb_snapshots
+    }
+
+    /// Returns the offset of the snapshot table. Says nothing if there are no snapshots.
+    #[inline]
+    pub fn snapshots_offset(&self) -> HostOffset
+        ensures { result.0 ≡ self.now.v2.snapshots_offset }
+    {
+        HostOffset(self.v2.snapshots_offset)
+    }
+
     /// Returns the name of the backing file, which has the guest's data wherever the image maps none.
     #[inline]
     pub fn backing_filename(&self) -> Option<&String>

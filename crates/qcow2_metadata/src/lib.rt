@@ -1,4 +1,5 @@
-//! The metadata of a qcow2 image: its header, its tables and their entries, its refcount blocks.
+//! The metadata of a qcow2 image: its header, its tables and their entries, its refcount blocks, its snapshot
+//! table.
 #![tactic(auto)]
 
 mod entries;
@@ -9,6 +10,7 @@ mod placed;
 mod range;
 mod read_ahead;
 mod refblock;
+mod snapshot_table;
 mod table;
 
 pub use entries::{
@@ -21,6 +23,7 @@ pub use header::{
 };
 pub use qcow2_base::{MAX_FILE_LENGTH, MAX_OFFSET};
 pub use refblock::{RefBlock, RefBlockWriteGuard};
+pub use snapshot_table::SnapshotTable;
 pub use table::{
     CompressedClusterReadGuard, EntryTable, L1Table, L2Table, L2TableWriteGuard, RefTable, Table,
     TableKind, Turns, least_spare,

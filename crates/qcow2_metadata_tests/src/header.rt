@@ -12,4 +12,5 @@ mod names;
 mod new_headers;
 mod refused_calls;
 mod rich_header;
+mod snapshot_table;
 mod writable_load;

@@ -37,6 +37,7 @@ fn make_call<S: Device>(call: Call, held: &mut Held, image: &mut S) -> Result<()
     match call {
         Call::NewHeader => headers::new(held),
         Call::LoadHeader { for_writing } => headers::load(for_writing, held, image),
+        Call::LoadSnapshots => headers::tell_snapshots(held, image),
         Call::WriteHeader => write_header(&mut held.header, image),
         Call::WriteSize => write_size(&held.header, image),
         Call::WriteL1TablePointer => write_l1_table_pointer(&held.header, image),

@@ -9,6 +9,7 @@ use std::alloc::Global;
 pub(crate) enum Call {
     NewHeader,
     LoadHeader { for_writing: bool },
+    LoadSnapshots,
     WriteHeader,
     WriteSize,
     WriteL1TablePointer,

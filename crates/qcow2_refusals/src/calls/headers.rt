@@ -3,7 +3,7 @@
 use super::tell;
 use crate::held::Held;
 use qcow2_base::{Fault, Storage};
-use qcow2_calls::{load_header, new_header};
+use qcow2_calls::{load_header, load_snapshots, new_header};
 use qcow2_metadata::Header;
 
 pub(super) fn load<S: Storage>(
@@ -13,6 +13,12 @@ pub(super) fn load<S: Storage>(
 ) -> Result<(), Fault> {
     held.header = load_header(held.alloc, image, for_writing)?;
     Ok(())
+}
+
+pub(super) fn tell_snapshots<S: Storage>(held: &mut Held, image: &mut S) -> Result<(), Fault> {
+    let table = load_snapshots(held.alloc, image, &held.header)?;
+    let found = (table.snapshots().len(), table.byte_count());
+    tell(&mut held.out, &found)
 }
 
 pub(super) fn new(held: &mut Held) -> Result<(), Fault> {

@@ -3,9 +3,9 @@
 use crate::held::DISK;
 use crate::rows::RUN;
 use crate::runs::Call::{
-    LoadHeader, WriteHeader, WriteL1TablePointer, WriteReftablePointer, WriteSize,
+    LoadHeader, LoadSnapshots, WriteHeader, WriteL1TablePointer, WriteReftablePointer, WriteSize,
 };
-use crate::runs::HeaderOf::{Disk, Named, New};
+use crate::runs::HeaderOf::{Disk, Named, New, OfImage};
 use crate::runs::{EMPTY, Image, Numbers, Run};
 use qcow2_testing::{VERSION_3, rows};
 
@@ -24,6 +24,9 @@ const RUNS: &[Run] = rows! {
     Run { call: LoadHeader { for_writing: true }, header: Disk(4096),
         image: Some(Image { len: 104, zeros: (0, 104), numbers: SMALL }),
         before: &[(88, 1)], after: &[(88, 0), (104, 0)], changes: &[(4, 0), (5, 0), (6, 0)], ..RUN },
+    Run { call: LoadSnapshots, header: OfImage,
+        image: Some(Image { len: 1024, zeros: (0, 1024), numbers: SMALL }),
+        before: THREE, after: THREE, reports: "(3, 120)", ..RUN },
     // a write within an image, and one past the end
     Run { call: WriteHeader, header: Named,
         image: Some(Image { len: 1024, zeros: (0, 121), ..EMPTY }), after: NAMED, changes: &[(9, 0)], ..RUN },
@@ -36,6 +39,9 @@ const RUNS: &[Run] = rows! {
 };
 
 const SMALL: Numbers = rows! { (0, VERSION_3), (16, 9), (96, 0x4_0000_0068) };
+
+// Three snapshots, by a table at byte 512.
+const THREE: Numbers = rows! { (56, 3), (64, 0x200) };
 
 // A header of 112 bytes, and the name backing.1 after it.
 const NAMED: Numbers = rows! {
