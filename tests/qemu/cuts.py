@@ -1,4 +1,4 @@
-"""Cuts of a run of `qmeta apply`: its writes and syncs, and the images that a crash may leave.
+"""Cuts of a run of `qmeta`: its writes and syncs, and the images that a crash may leave; and those of `qmeta apply`.
 
 A device writes a sector as a whole or not at all, and all before a sync before all after it.
 """
@@ -114,11 +114,11 @@ def parts_of(log, name):
     return parts
 
 
-def record(qmeta, path, words):
-    """Runs `qmeta apply` on the image under strace, and returns the parts of its writes."""
+def record(path, words, statuses=(0,)):
+    """Runs a command on the image under strace, and returns the parts of its writes."""
     log = path.with_suffix(".log")
     trace = ["strace", "-o", log.name, "-xx", "-s", str(MOST_BYTES), "-e", f"trace={','.join(sorted(CALLS))}"]
-    run([*trace, qmeta, "apply", path.name, *words], path.parent)
+    run([*trace, *words], path.parent, statuses)
     with open(log, encoding="ascii") as lines:
         parts = parts_of(lines, path.name)
     log.unlink()
@@ -247,7 +247,8 @@ class CutTrial(Trial):
             self.problems.append("the image isn't consistent before the run")
         image = Image(self.path).read()
         edits = Drawer(image, self.chance).draw(NAMES, True)
-        self.parts = record(self.qmeta, self.path, [edit.word(self.chance, self.kind.cluster_size) for edit in edits])
+        words = [edit.word(self.chance, self.kind.cluster_size) for edit in edits]
+        self.parts = record(self.path, [self.qmeta, "apply", self.path.name, *words])
         self.problems += wrong_places(self.parts, image)
         leaks, errors = found_by_qemu(self.path)
         if errors or leaks and self.kind.autoclear != "bitmaps":
